@@ -1,0 +1,50 @@
+-- Exact fractions of whole numbers, in which the paper's formulas are written.
+use mathlib.Core.Path.{_≡_}
+use mathlib.Core.Bool.{Bool}
+use Prim.Native.Nat.{ℕ, _+_, _-_, _*_}
+use lib.Dec.{leb}
+use Rattle.rounding.specs.Near.{near}
+
+-- num / den
+pub record Fraction : Type 0 where
+  pub num : ℕ
+  pub den : ℕ
+
+infix 80 _over_
+infixl 60 _⊕_
+infixl 60 _⊖_
+infixl 70 _⊗_
+infixl 70 _⊘_
+infix 50 _≼_
+infix 50 _≈_
+abbrev pub _over_ : ℕ → ℕ → Fraction
+n over d = record { num = n; den = d }
+
+abbrev pub whole : ℕ → Fraction
+whole n = n over 1
+
+abbrev pub _⊕_ : Fraction → Fraction → Fraction
+x ⊕ y = (x .num * y .den + y .num * x .den) over (x .den * y .den)
+
+-- exact where y is at most x
+abbrev pub _⊖_ : Fraction → Fraction → Fraction
+x ⊖ y = (x .num * y .den - y .num * x .den) over (x .den * y .den)
+
+abbrev pub _⊗_ : Fraction → Fraction → Fraction
+x ⊗ y = (x .num * y .num) over (x .den * y .den)
+
+-- exact where y is not 0
+abbrev pub _⊘_ : Fraction → Fraction → Fraction
+x ⊘ y = (x .num * y .den) over (x .den * y .num)
+
+-- x is at most y
+abbrev pub _≼_ : Fraction → Fraction → Bool
+x ≼ y = leb (x .num * y .den) (y .num * x .den)
+
+-- x and y are the same number
+abbrev pub _≈_ : Fraction → Fraction → Type 0
+x ≈ y = x .num * y .den ≡ y .num * x .den
+
+-- near of a fraction
+abbrev pub nearest : Fraction → ℕ
+nearest x = near (x .num) (x .den)

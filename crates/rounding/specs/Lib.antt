@@ -1,0 +1,2 @@
+pub mod Near
+pub mod Fraction

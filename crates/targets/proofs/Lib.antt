@@ -1,0 +1,2 @@
+pub mod EachBetween
+pub mod Laws

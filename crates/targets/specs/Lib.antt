@@ -1,0 +1,3 @@
+pub mod Cube
+pub mod Paper
+pub mod Facts

@@ -1,0 +1,4 @@
+pub mod Channels
+pub mod Cases
+pub mod Accurate
+pub mod Paper

@@ -1,0 +1,68 @@
+-- The accuracy of a moved pixel (document 00, demand 3; document 01, "The book and the whole run").
+use mathlib.Core.Path.{_≡_}
+use mathlib.Core.Bool.{cond}
+use mathlib.Core.Logic.{_⊎_}
+use Prim.Native.Nat.{ℕ, _+_, _-_, _*_, _<_, _≤_}
+use lib.Dec.{leb, eqb}
+use Rattle.rounding.specs.Fraction.{Fraction, _over_}
+use Rattle.pixel.specs.Move.{Channel, sample, InRange, intensity, moved}
+use Rattle.pixel.specs.declared.Pixel.{Pixel}
+use Rattle.pixel.specs.declared.Method.{Method}
+use Rattle.pixel.specs.declared.Method.the-variants.{NaikMurthy, YangLee}
+
+-- The factor for intensity s and entry f in method 1: f / s for f at most s, (765 − f) / t for f above s.
+unfoldable pub factor₁ : ℕ → ℕ → Fraction
+factor₁ s f = cond (leb f s) (f over s) ((765 - f) over (765 - s))
+
+-- In method 2:
+unfoldable pub factor₂ : ℕ → ℕ → Fraction
+factor₂ s f =
+    let t = 765 - s in
+    cond (leb s 255)
+    -- s at most 255: f / s for f at most 255, (765 − f) / (2 × s) for f above 255
+    (cond (leb f 255) (f over s) ((765 - f) over (2 * s)))
+    (cond (leb s 510)
+    -- s from 256 to 510: as method 1
+    (factor₁ s f)
+    -- s above 510: f / (2 × t) for f at most 510, (765 − f) / t for f above 510
+    (cond (leb f 510) (f over (2 * t)) ((765 - f) over t)))
+
+abbrev pub factorBy : Method → ℕ → ℕ → Fraction
+factorBy NaikMurthy = factor₁
+factorBy YangLee = factor₂
+
+-- The factor is 1 at s = 0 and at s = 765.
+unfoldable pub factor : Method → ℕ → ℕ → Fraction
+factor m s f = cond (eqb s 0) (1 over 1) (cond (eqb s 765) (1 over 1) (factorBy m s f))
+
+-- x' − y' is less than a full step above (x − y) × k.
+abbrev pub withinOneStep : Fraction → ℕ → ℕ → ℕ → ℕ → Type 0
+withinOneStep k x y x' y' = x' * k .den + y * k .num < y' * k .den + x * k .num + k .den
+
+-- The rules of demand 3 for a pixel p that is written as q, with the entry f for its intensity and the factor k.
+pub record PixelAccurate (k : Fraction) (f : ℕ) (p q : Pixel) : Type 0 where
+  -- each sample is 0 to 255
+  pub range : InRange q
+  -- of two channels the one no larger going in comes out no larger
+  pub order : (a b : Channel) → sample p a ≤ sample p b → sample q a ≤ sample q b
+  -- the sum is at most one from the entry
+  pub sumAbove : intensity q ≤ f + 1
+  pub sumBelow : f ≤ intensity q + 1
+  -- two channels differ by their input difference times the factor, give or take less than a full step (also with a and b exchanged)
+  pub difference : (a b : Channel) → withinOneStep k (sample p a) (sample p b) (sample q a) (sample q b)
+  -- the factor is a number
+  pub denominator : 0 < k .den
+
+-- The sum rule is for intensities 1 to 764, and for 0 and 765 with their own targets.
+pub record OwnEnds (p : Pixel) (f : ℕ) : Type 0 where
+  pub black : intensity p ≡ 0 → f ≡ 0
+  pub white : intensity p ≡ 765 → f ≡ 765
+
+-- Claim: every move keeps the rules. Proved: proofs/Accurate.antt, `moves-are-accurate`.
+abbrev pub MovesAreAccurate : Type 0
+MovesAreAccurate =
+    (m : Method) (p : Pixel) (f : ℕ) → InRange p → f ≤ 765 → OwnEnds p f → PixelAccurate (factor m (intensity p) f) f p (moved m p f)
+
+-- Claim: black and white stay, for every target. Proved: proofs/Accurate.antt, `ends-stay`.
+abbrev pub EndsStay : Type 0
+EndsStay = (m : Method) (p : Pixel) (f : ℕ) → InRange p → (intensity p ≡ 0) ⊎ (intensity p ≡ 765) → moved m p f ≡ p

@@ -1,0 +1,6 @@
+pub mod Methods
+pub mod Move
+pub mod MoveOne
+pub mod Paper
+pub mod Accuracy
+pub mod Inner

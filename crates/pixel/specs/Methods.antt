@@ -1,0 +1,19 @@
+-- The two methods of moving a pixel, and document 01's number for each.
+use mathlib.Core.Bool.{Bool, _||_, cond}
+use Prim.Native.Nat.{ℕ}
+use lib.Dec.{eqb}
+use Rattle.pixel.specs.declared.Method.{Method}
+use Rattle.pixel.specs.declared.Method.the-variants.{NaikMurthy, YangLee}
+
+-- Method 1, Naik and Murthy; method 2, Yang and Lee.
+abbrev pub methodNumber : Method → ℕ
+methodNumber NaikMurthy = 1
+methodNumber YangLee = 2
+
+-- Whether a number is one of these.
+abbrev pub isMethod : ℕ → Bool
+isMethod n = eqb n (methodNumber NaikMurthy) || eqb n (methodNumber YangLee)
+
+-- The method of a number that is one of these (of another number nobody asks it).
+abbrev pub methodOf : ℕ → Method
+methodOf n = cond (eqb n (methodNumber NaikMurthy)) NaikMurthy YangLee

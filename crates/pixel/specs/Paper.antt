@@ -1,0 +1,81 @@
+-- The two methods as source 004 prints them, in exact fractions (sections 2.1 and 2.2).
+-- The paper's l, f(l) and p are an intensity and a target from 0 to 3, and a sample from 0 to 1.
+use mathlib.Core.Path.{_≡_}
+use mathlib.Core.Bool.{cond}
+use Prim.Native.Nat.{ℕ, _-_, _<_, _≤_}
+use lib.Dec.{T}
+use Rattle.rounding.specs.Fraction.{Fraction, whole, _over_, _⊖_, _⊗_, _⊘_, _≼_, nearest}
+use Rattle.pixel.specs.Move.{Channel, sample, InRange, intensity, moved}
+use Rattle.pixel.specs.declared.Pixel.{Pixel}
+use Rattle.pixel.specs.declared.Method.{Method}
+use Rattle.pixel.specs.declared.Method.the-variants.{NaikMurthy, YangLee}
+
+-- Each case of the paper gives the new sample as x, or as 1 − x.
+pub data Exact : Type 0 where
+  is oneMinus : Fraction → Exact
+
+-- 2.1. Case (i), α(l) ≤ 1: p′ = α(l) p, where α(l) = f(l) / l.
+-- Case (ii), α(l) > 1: p′ = 1 − ᾱ(l)(1 − p), where ᾱ(l) = [3 − f(l)] / (3 − l).
+unfoldable pub paper₁ : Fraction → Fraction → Fraction → Exact
+paper₁ l f p =
+    let α = f ⊘ l in
+    let ᾱ = (whole 3 ⊖ f) ⊘ (whole 3 ⊖ l) in
+    cond (α ≼ whole 1) (is (α ⊗ p)) (oneMinus (ᾱ ⊗ (whole 1 ⊖ p)))
+
+-- 2.2. Case (I), l ≤ 1, with p̃ = p / l: (I-i), f(l) ≤ 1: p″ = f(l) p̃. (I-ii), f(l) > 1: p″ = 1 − [3 − f(l)](1 − p̃) / 2.
+unfoldable pub paperI : Fraction → Fraction → Fraction → Exact
+paperI l f p =
+    let p̃ = p ⊘ l in
+    cond (f ≼ whole 1) (is (f ⊗ p̃)) (oneMinus ((whole 3 ⊖ f) ⊗ (whole 1 ⊖ p̃) ⊘ whole 2))
+
+-- Case (III), l > 2, with q = 1 − p, q̃ = q / (3 − l), p̃ = 1 − q̃: (III-i), f(l) ≤ 2: p″ = f(l) p̃ / 2.
+-- (III-ii), f(l) > 2: p″ = 1 − [3 − f(l)](1 − p̃).
+unfoldable pub paperIII : Fraction → Fraction → Fraction → Exact
+paperIII l f p =
+    let q = whole 1 ⊖ p in
+    let q̃ = q ⊘ (whole 3 ⊖ l) in
+    let p̃ = whole 1 ⊖ q̃ in
+    cond (f ≼ whole 2) (is (f ⊗ p̃ ⊘ whole 2)) (oneMinus ((whole 3 ⊖ f) ⊗ (whole 1 ⊖ p̃)))
+
+-- Case (II), 1 < l ≤ 2: Naik and Murthy's method.
+unfoldable pub paper₂ : Fraction → Fraction → Fraction → Exact
+paper₂ l f p = cond (l ≼ whole 1) (paperI l f p) (cond (l ≼ whole 2) (paper₁ l f p) (paperIII l f p))
+
+abbrev pub paperBy : Method → Fraction → Fraction → Fraction → Exact
+paperBy NaikMurthy = paper₁
+paperBy YangLee = paper₂
+
+-- 2.1: "we set that p′ = 1 if l = 3, and p′ = 0 if l = 0".
+unfoldable pub paper : Method → Fraction → Fraction → Fraction → Exact
+paper m l f p = cond (l ≼ whole 0) (is (whole 0)) (cond (whole 3 ≼ l) (is (whole 1)) (paperBy m l f p))
+
+-- The new sample in code values, rounded once: near(255 x), or 255 − near(255 x).
+abbrev pub codeOf : Exact → ℕ
+codeOf (is x) = nearest (whole 255 ⊗ x)
+codeOf (oneMinus x) = 255 - nearest (whole 255 ⊗ x)
+
+-- Claim: each sample of a moved pixel is the paper's sample, at l = s/255, f(l) = f/255 and p = c/255, rounded once.
+-- Proved: proofs/Paper.antt, `moves-are-the-papers`.
+abbrev pub MovesAreThePapers : Type 0
+MovesAreThePapers =
+    (m : Method) (p : Pixel) (f : ℕ) (a : Channel) → InRange p → f ≤ 765
+    → sample (moved m p f) a ≡ codeOf (paper m (intensity p over 255) (f over 255) (sample p a over 255))
+
+-- No divisor of the formulas above is 0, and none of their subtractions is cut off at 0.
+pub record Exactly (l f p : Fraction) : Type 0 where
+  -- the divisors l and 3 − l
+  pub notBlack : 0 < l .num
+  pub notWhite : 0 < (whole 3 ⊖ l) .num
+  -- 3 − l, 3 − f(l) and 1 − p
+  pub intensityFits : T (l ≼ whole 3)
+  pub targetFits : T (f ≼ whole 3)
+  pub sampleFits : T (p ≼ whole 1)
+  -- 1 − p̃ in case (I), and 1 − q̃ in case (III)
+  pub caseI : T (p ⊘ l ≼ whole 1)
+  pub caseIII : T ((whole 1 ⊖ p) ⊘ (whole 3 ⊖ l) ≼ whole 1)
+
+-- Claim: so it is for every pixel that is neither black nor white. Proved: proofs/Paper.antt, `papers-are-exact`.
+abbrev pub PapersAreExact : Type 0
+PapersAreExact =
+    (p : Pixel) (f : ℕ) (a : Channel) → InRange p → f ≤ 765 → 0 < intensity p → intensity p < 765
+    → Exactly (intensity p over 255) (f over 255) (sample p a over 255)

@@ -1,0 +1,200 @@
+// Moving a pixel to a target intensity (document 01, "Moving a pixel").
+ghost use mathlib.Core.Path.{_≡_};
+ghost use Prim.Native.Nat.{_+_, _-_, _*_, _<_, _≤_};
+ghost use Rattle.rounding.specs.Near.{near};
+ghost use Rattle.pixel.specs.Methods.{isMethod, methodOf};
+ghost use Rattle.pixel.specs.Move.{naikMurthy, yangLee, byMethod, movedSample, moved};
+ghost use Rattle.pixel.specs.MoveOne.{moveNumber, refusedMove, movedOne};
+ghost use Rattle.pixel.specs.Inner.{AtMostWhite, Inside, Between};
+
+// The two methods of source 004: 2.1 and 2.2.
+pub enum Method {
+    NaikMurthy,
+    YangLee,
+}
+
+pub struct Pixel {
+    pub r: u8,
+    pub g: u8,
+    pub b: u8,
+}
+
+// The answer of a single move: 0 or the refusal's number, and the pixel, black where refused.
+pub struct Moved {
+    pub number: u32,
+    pub pixel: Pixel,
+}
+
+// near(x × n / d), the product rounded once.
+fn rounded_product(x: u64, n: u64, d: u64) -> u64
+    requires { ⌜ AtMostWhite x n d ⌝ }
+    ensures { λ r. ⌜ r ≡ near (x * n) d ⌝ }
+{
+    rounding::rounded(x * n, d)
+}
+
+fn byte(x: u64) -> u8
+    requires { ⌜ x ≤ 255 ⌝ }
+    ensures { λ r. ⌜ r ≡ x ⌝ }
+{
+    x as u8
+}
+
+// near(x × n / d), as a sample.
+fn scaled(x: u64, n: u64, d: u64) -> u8
+    requires { ⌜ AtMostWhite x n d ⌝ }
+    ensures { λ r. ⌜ r ≡ near (x * n) d ⌝ }
+{
+    byte(rounded_product(x, n, d))
+}
+
+// The same, counted down from white.
+fn scaled_from_white(x: u64, n: u64, d: u64) -> u8
+    requires { ⌜ AtMostWhite x n d ⌝ }
+    ensures { λ r. ⌜ r ≡ 255 - near (x * n) d ⌝ }
+{
+    255 - scaled(x, n, d)
+}
+
+// Method 1: the sample c of a pixel of intensity s, moved to the target f.
+fn naik_murthy(s: u64, f: u64, c: u64) -> u8
+    requires { ⌜ Between s f c ⌝ }
+    ensures { λ r. ⌜ r ≡ naikMurthy s f c ⌝ }
+{
+    if f <= s {
+        return scaled(c, f, s);
+    }
+    scaled_from_white(255 - c, 765 - f, 765 - s)
+}
+
+// Method 2 for a dark pixel, s at most 255.
+fn yang_lee_dark(s: u64, f: u64, c: u64) -> u8
+    requires { ⌜ Between s f c × (s ≤ 255) ⌝ }
+    ensures { λ r. ⌜ r ≡ yangLee s f c ⌝ }
+{
+    if f <= 255 {
+        return scaled(c, f, s);
+    }
+    scaled_from_white(765 - f, s - c, 2 * s)
+}
+
+// Method 2 for a bright pixel, s above 510.
+fn yang_lee_bright(s: u64, f: u64, c: u64) -> u8
+    requires { ⌜ Between s f c × (510 < s) ⌝ }
+    ensures { λ r. ⌜ r ≡ yangLee s f c ⌝ }
+{
+    let d = 255 - c;
+    let t = 765 - s;
+    if f <= 510 {
+        return scaled(f, t - d, 2 * t);
+    }
+    scaled_from_white(765 - f, d, t)
+}
+
+// Method 2: the pixel's own intensity decides the case, and not the target.
+fn yang_lee(s: u64, f: u64, c: u64) -> u8
+    requires { ⌜ Between s f c ⌝ }
+    ensures { λ r. ⌜ r ≡ yangLee s f c ⌝ }
+{
+    if s <= 255 {
+        return yang_lee_dark(s, f, c);
+    }
+    if s <= 510 {
+        return naik_murthy(s, f, c);
+    }
+    yang_lee_bright(s, f, c)
+}
+
+fn by_method(method: Method, s: u64, f: u64, c: u64) -> u8
+    requires { ⌜ Between s f c ⌝ }
+    ensures { λ r. ⌜ r ≡ byMethod method s f c ⌝ }
+{
+    match method {
+        Method::NaikMurthy => naik_murthy(s, f, c),
+        Method::YangLee => yang_lee(s, f, c),
+    }
+}
+
+// One sample of a moved pixel. Black and white stay, and neither method divides by zero.
+fn moved_sample(method: Method, s: u64, f: u64, c: u64) -> u8
+    requires { ⌜ Inside s f c ⌝ }
+    ensures { λ r. ⌜ r ≡ movedSample method s f c ⌝ }
+{
+    if s == 0 {
+        return 0;
+    }
+    if s == 765 {
+        return 255;
+    }
+    by_method(method, s, f, c)
+}
+
+// The pixel, moved to a target of at most 765.
+pub fn move_pixel(method: Method, pixel: Pixel, target: u32) -> Pixel
+    requires { ⌜ target ≤ 765 ⌝ }
+    ensures { λ r. ⌜ r ≡ moved method pixel target ⌝ }
+{
+    let r = pixel.r as u64;
+    let g = pixel.g as u64;
+    let b = pixel.b as u64;
+    let s = r + g + b;
+    let f = target as u64;
+    Pixel {
+        r: moved_sample(method, s, f, r),
+        g: moved_sample(method, s, f, g),
+        b: moved_sample(method, s, f, b),
+    }
+}
+
+// Whether a number names a method.
+pub fn is_method(number: u32) -> bool
+    ensures { λ r. ⌜ r ≡ isMethod number ⌝ }
+{
+    number == 1 || number == 2
+}
+
+// The method that a number names.
+pub fn method_of(number: u32) -> Method
+    ensures { λ r. ⌜ r ≡ methodOf number ⌝ }
+{
+    if number == 1 {
+        return Method::NaikMurthy;
+    }
+    Method::YangLee
+}
+
+// 0, or the first refusal that applies to a single move.
+fn move_number(method: u32, target: u32) -> u32
+    ensures { λ r. ⌜ r ≡ moveNumber method target ⌝ }
+{
+    if !is_method(method) {
+        return 7;
+    }
+    if 765 < target {
+        return 9;
+    }
+    0
+}
+
+fn refused_move(number: u32) -> Moved
+    ensures { λ r. ⌜ r ≡ refusedMove number ⌝ }
+{
+    Moved {
+        number,
+        pixel: Pixel { r: 0, g: 0, b: 0 },
+    }
+}
+
+// Moves one pixel to a target intensity. Refused: 7, the method is not 1 or 2; 9, the target is above 765.
+pub fn move_one(method: u32, pixel: Pixel, target: u32) -> Moved
+    ensures { λ r. ⌜ r ≡ movedOne method pixel target ⌝ }
+{
+    let number = move_number(method, target);
+    if number != 0 {
+        return refused_move(number);
+    }
+    Moved {
+        number: 0,
+        pixel: move_pixel(method_of(method), pixel, target),
+    }
+}

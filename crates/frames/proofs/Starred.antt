@@ -1,0 +1,9 @@
+-- The starred reference frames hold, by computation.
+use mathlib.Core.Path.{refl}
+use Rattle.rounding.specs.Near.{near}
+use Rattle.pixel.specs.Move.{moved, movedSample, naikMurthy, yangLee}
+use Rattle.frames.specs.Starred.{starred, StarredFramesHold}
+
+pub starred-frames-hold : StarredFramesHold
+unfolding starred moved movedSample naikMurthy yangLee near
+starred-frames-hold = (refl, (refl, (refl, (refl, (refl, (refl, (refl, (refl, (refl, (refl, (refl, (refl, (refl, (refl, (refl, (refl, (refl, tt)))))))))))))))))

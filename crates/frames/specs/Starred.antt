@@ -1,0 +1,57 @@
+-- Document 01, "Reference frames": the starred ones, as one table with one claim.
+use mathlib.Core.Path.{_≡_}
+use mathlib.Core.List.{List, [], _∷_}
+use Prim.Native.Nat.{ℕ}
+use Rattle.pixel.specs.Move.{intensity, moved}
+use Rattle.pixel.specs.declared.Pixel.{Pixel}
+use Rattle.pixel.specs.declared.Method.{Method}
+use Rattle.pixel.specs.declared.Method.the-variants.{NaikMurthy, YangLee}
+
+-- A frame is a move, by a method, of a pixel, to a target, with the pixel that it gives; or the sum of a pixel.
+pub data Frame : Type 0 where
+  move : Method → Pixel → ℕ → Pixel → Frame
+  sum : Pixel → ℕ → Frame
+
+abbrev pub Holds : Frame → Type 0
+Holds (move m p f q) = moved m p f ≡ q
+Holds (sum p s) = intensity p ≡ s
+
+abbrev pub AllHold : List Frame → Type 0
+AllHold [] = Unit {0}
+AllHold (x ∷ xs) = Holds x × AllHold xs
+
+abbrev pub rgb : ℕ → ℕ → ℕ → Pixel
+rgb r g b = record { r = r; g = g; b = b }
+
+unfoldable pub starred : List Frame
+starred =
+    -- Method 1, (100, 150, 200): target 300 gives (67, 100, 133); 600 gives (174, 200, 226).
+    move NaikMurthy (rgb 100 150 200) 300 (rgb 67 100 133)
+    ∷ move NaikMurthy (rgb 100 150 200) 600 (rgb 174 200 226)
+    -- Method 1, (1, 2, 3), target 3: (1, 1, 2), sum 4.
+    ∷ move NaikMurthy (rgb 1 2 3) 3 (rgb 1 1 2)
+    ∷ sum (rgb 1 1 2) 4
+    -- Method 1, (254, 253, 252), target 762: (254, 254, 253), sum 761.
+    ∷ move NaikMurthy (rgb 254 253 252) 762 (rgb 254 254 253)
+    ∷ sum (rgb 254 254 253) 761
+    -- (10, 20, 30), target 120: method 2 (20, 40, 60); method 1 (31, 40, 49).
+    ∷ move YangLee (rgb 10 20 30) 120 (rgb 20 40 60)
+    ∷ move NaikMurthy (rgb 10 20 30) 120 (rgb 31 40 49)
+    -- Method 2, (10, 20, 30), target 405: (105, 135, 165).
+    ∷ move YangLee (rgb 10 20 30) 405 (rgb 105 135 165)
+    -- Method 2, (245, 235, 225): target 360 gives (150, 120, 90); 645 gives (235, 215, 195).
+    ∷ move YangLee (rgb 245 235 225) 360 (rgb 150 120 90)
+    ∷ move YangLee (rgb 245 235 225) 645 (rgb 235 215 195)
+    -- Target 255, (255, 255, 0), sum 510: (128, 128, 0) by either.
+    ∷ sum (rgb 255 255 0) 510
+    ∷ move NaikMurthy (rgb 255 255 0) 255 (rgb 128 128 0)
+    ∷ move YangLee (rgb 255 255 0) 255 (rgb 128 128 0)
+    -- (255, 255, 1), sum 511: method 2 (128, 128, 0); method 1 (127, 127, 0).
+    ∷ sum (rgb 255 255 1) 511
+    ∷ move YangLee (rgb 255 255 1) 255 (rgb 128 128 0)
+    ∷ move NaikMurthy (rgb 255 255 1) 255 (rgb 127 127 0)
+    ∷ []
+
+-- Claim: every starred frame holds. Proved: proofs/Starred.antt, `starred-frames-hold`.
+abbrev pub StarredFramesHold : Type 0
+StarredFramesHold = AllHold starred

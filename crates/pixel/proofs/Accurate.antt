@@ -63,58 +63,70 @@ module _ (p : Pixel) (w v : ℕ → ℕ) (n d : ℕ) (line : Line p w v n d) whe
   rounded-sum = near-sum d (line .positive) n (v (p .r)) (v (p .g)) (v (p .b)) numerators-sum
 
   -- towards black: the weight is the sample less k, and n is the target
-  towards-black : (k : ℕ) → ((a : Channel) → w (x a) + k ≡ x a)
-      → PixelAccurate (n over d) n p (eachSample (λ c. near (v c) d) p)
-  towards-black k less =
-      let out = sample-each (λ c. near (v c) d) p in
-      record {
-        range = λ a. omega (arith, out a, rounded-range a);
-        order = λ a b h. omega (arith, out a, out b, rounded-order a b (omega (arith, less a, less b)));
-        sumAbove = rounded-sum .above;
-        sumBelow = rounded-sum .below;
-        difference =
-            λ a b.
-            omega (
-              arith,
-              rounded-difference a b,
-              ap (λ (t : ℕ). t * d) (out a),
-              ap (λ (t : ℕ). t * d) (out b),
-              ap (λ (t : ℕ). t * n) (less a),
-              ap (λ (t : ℕ). t * n) (less b),
-              add-mul (w (x a)) k n,
-              add-mul (w (x b)) k n,
-            );
-        denominator = line .positive;
-      }
+  module _ (k : ℕ) (less : (a : Channel) → w (x a) + k ≡ x a) where
+    abbrev darkened : Pixel
+    darkened = eachSample (λ c. near (v c) d) p
+
+    out-dark : (a : Channel) → sample darkened a ≡ rounded a
+    out-dark = sample-each (λ c. near (v c) d) p
+
+    step-dark : (a b : Channel) → sample darkened a * d + x b * n < sample darkened b * d + x a * n + d
+    step-dark a b =
+        omega (
+          arith,
+          rounded-difference a b,
+          ap (λ (t : ℕ). t * d) (out-dark a),
+          ap (λ (t : ℕ). t * d) (out-dark b),
+          ap (λ (t : ℕ). t * n) (less a),
+          ap (λ (t : ℕ). t * n) (less b),
+          add-mul (w (x a)) k n,
+          add-mul (w (x b)) k n,
+        )
+
+    towards-black : PixelAccurate (n over d) n p darkened
+    towards-black =
+        record {
+          range = λ a. omega (arith, out-dark a, rounded-range a);
+          order = λ a b h. omega (arith, out-dark a, out-dark b, rounded-order a b (omega (arith, less a, less b)));
+          sumAbove = rounded-sum .above;
+          sumBelow = rounded-sum .below;
+          difference = λ a b. (step-dark a b, step-dark b a);
+          denominator = line .positive;
+        }
 
   -- towards white: the weight is k less the sample, n is 765 less the target, and the result is counted down from 255
-  towards-white : (f k : ℕ) → n + f ≡ 765 → ((a : Channel) → w (x a) + x a ≡ k)
-      → PixelAccurate (n over d) f p (eachSample (λ c. 255 - near (v c) d) p)
-  towards-white f k target less =
-      let q = eachSample (λ c. 255 - near (v c) d) p in
-      let out = sample-each (λ c. 255 - near (v c) d) p in
-      let back : (a : Channel) → sample q a + rounded a ≡ 255 = λ a. omega (arith, out a, rounded-range a) in
-      record {
-        range = λ a. omega (arith, back a);
-        order = λ a b h. omega (arith, back a, back b, rounded-order b a (omega (arith, less a, less b)));
-        sumAbove = omega (arith, rounded-sum .below, back red, back green, back blue);
-        sumBelow = omega (arith, rounded-sum .above, back red, back green, back blue);
-        difference =
-            λ a b.
-            omega (
-              arith,
-              rounded-difference b a,
-              ap (λ (t : ℕ). t * d) (back a),
-              ap (λ (t : ℕ). t * d) (back b),
-              ap (λ (t : ℕ). t * n) (less a),
-              ap (λ (t : ℕ). t * n) (less b),
-              add-mul (sample q a) (rounded a) d,
-              add-mul (sample q b) (rounded b) d,
-              add-mul (w (x a)) (x a) n,
-              add-mul (w (x b)) (x b) n,
-            );
-        denominator = line .positive;
-      }
+  module _ (f k : ℕ) (target : n + f ≡ 765) (less : (a : Channel) → w (x a) + x a ≡ k) where
+    abbrev lightened : Pixel
+    lightened = eachSample (λ c. 255 - near (v c) d) p
+
+    out-light : (a : Channel) → sample lightened a + rounded a ≡ 255
+    out-light a = omega (arith, sample-each (λ c. 255 - near (v c) d) p a, rounded-range a)
+
+    step-light : (a b : Channel) → sample lightened a * d + x b * n < sample lightened b * d + x a * n + d
+    step-light a b =
+        omega (
+          arith,
+          rounded-difference b a,
+          ap (λ (t : ℕ). t * d) (out-light a),
+          ap (λ (t : ℕ). t * d) (out-light b),
+          ap (λ (t : ℕ). t * n) (less a),
+          ap (λ (t : ℕ). t * n) (less b),
+          add-mul (sample lightened a) (rounded a) d,
+          add-mul (sample lightened b) (rounded b) d,
+          add-mul (w (x a)) (x a) n,
+          add-mul (w (x b)) (x b) n,
+        )
+
+    towards-white : PixelAccurate (n over d) f p lightened
+    towards-white =
+        record {
+          range = λ a. omega (arith, out-light a);
+          order = λ a b h. omega (arith, out-light a, out-light b, rounded-order b a (omega (arith, less a, less b)));
+          sumAbove = omega (arith, rounded-sum .below, out-light red, out-light green, out-light blue);
+          sumBelow = omega (arith, rounded-sum .above, out-light red, out-light green, out-light blue);
+          difference = λ a b. (step-light a b, step-light b a);
+          denominator = line .positive;
+        }
 
 -- the weights t − d of a bright pixel add up to 2 × t
 bright-total : (x y z k s r g b : ℕ) → x + k ≡ r → y + k ≡ g → z + k ≡ b → k + 510 ≡ s → r + g + b ≡ s → s < 765
@@ -224,7 +236,7 @@ flat-accurate p c le flat =
       order = λ a b h. omega (arith, out a, out b);
       sumAbove = omega arith;
       sumBelow = omega arith;
-      difference = λ a b. omega (arith, out a, out b, flat a, flat b);
+      difference = λ a b. (omega (arith, out a, out b, flat a, flat b), omega (arith, out a, out b, flat a, flat b));
       denominator = omega arith;
     }
 

@@ -1,3 +1,4 @@
+pub mod Numbers
 pub mod Channels
 pub mod Cases
 pub mod Accurate

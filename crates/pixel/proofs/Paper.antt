@@ -10,12 +10,12 @@ use Rattle.rounding.specs.Fraction.{Fraction, whole, _over_, _⊖_, _⊗_, _⊘
 use Rattle.rounding.proofs.Laws.{near-same}
 use Rattle.pixel.specs.Inner.{Inside, Between}
 use Rattle.pixel.specs.Move.{Channel, sample, InRange, intensity, naikMurthy, yangLee, byMethod, movedSample, moved}
-use Rattle.pixel.specs.Paper.{Exact, Exact.is, Exact.oneMinus, paper₁, paper₂, paperI, paperIII, paperBy, paper, codeOf, MovesAreThePapers, Exactly, PapersAreExact}
+use Rattle.pixel.specs.Paper.{Exact, Exact.is, Exact.oneMinus, paper₁, paper₂, paperI, paperIII, paperBy, paper, Rounds, MovesAreThePapers, Exactly, PapersAreExact}
 use Rattle.pixel.specs.declared.Pixel.{Pixel}
 use Rattle.pixel.specs.declared.Method.{Method}
 use Rattle.pixel.specs.declared.Method.the-variants.{NaikMurthy, YangLee}
 use Rattle.pixel.proofs.Channels.{sample-each, inside}
-use Rattle.pixel.proofs.Cases.{either}
+use Rattle.pixel.proofs.Cases.{either, at-most-255, case-ii, case-I-ii, case-III-ii}
 
 -- x/255 divided by z/255
 abbrev ratio : ℕ → ℕ → Fraction
@@ -50,6 +50,10 @@ module _ (x y z : ℕ) (positive : 0 < z) where
   ratio-halved =
       near-same (x * y) (2 * z) (255 * (x * (255 * y) * 1)) (1 * (255 * (255 * z) * 2)) (omega arith) (omega arith)
       (simp (mul-one, one-mul, mul-assoc, mul-comm, mul-left-comm))
+
+-- a line that counts down from 255
+from-white : {z r : ℕ} → z ≡ r → z ≤ 255 → 255 - z + r ≡ 255
+from-white e h = omega arith
 
 -- the lines of document 01, by the paper's cases
 module _ {s f c : ℕ} (h : Between s f c) where
@@ -108,67 +112,71 @@ module _ {s f c : ℕ} (h : Between s f c) where
       ∙ one-minus-ratio (765 - s - (255 - c)) (765 - s)
       ∙ ap (λ (n : ℕ). ratio n (765 - s)) twice))
 
-  same₁ : naikMurthy s f c ≡ codeOf (paper₁ l̂ f̂ p̂)
+  rounds₁ : Rounds (naikMurthy s f c) (paper₁ l̂ f̂ p̂)
   unfolding naikMurthy paper₁
-  same₁ =
+  rounds₁ =
       either f s
       (λ l. simp (le-leb f s l, le-leb (f * 255 * 1) (1 * (255 * s)) (omega arith)) round-i)
-      (λ l. simp (lt-leb f s l, lt-leb (f * 255 * 1) (1 * (255 * s)) (omega arith)) (ap (λ (n : ℕ). 255 - n) round-ii))
+      (λ l.
+      simp (lt-leb f s l, lt-leb (f * 255 * 1) (1 * (255 * s)) (omega arith))
+      (from-white round-ii (at-most-255 (case-ii h l))))
 
-  sameI : s ≤ 255 → yangLee s f c ≡ codeOf (paperI l̂ f̂ p̂)
+  roundsI : s ≤ 255 → Rounds (yangLee s f c) (paperI l̂ f̂ p̂)
   unfolding yangLee paperI
-  sameI m =
+  roundsI m =
       either f 255
       (λ l. simp (le-leb s 255 m, le-leb f 255 l, le-leb (f * 1) 255 (omega arith)) round-I-i)
-      (λ l. simp (le-leb s 255 m, lt-leb f 255 l, lt-leb (f * 1) 255 (omega arith)) (ap (λ (n : ℕ). 255 - n) round-I-ii))
+      (λ l.
+      simp (le-leb s 255 m, lt-leb f 255 l, lt-leb (f * 1) 255 (omega arith))
+      (from-white round-I-ii (at-most-255 (case-I-ii h m l))))
 
-  sameIII : 510 < s → yangLee s f c ≡ codeOf (paperIII l̂ f̂ p̂)
+  roundsII : 255 < s → s ≤ 510 → Rounds (yangLee s f c) (paper₁ l̂ f̂ p̂)
+  unfolding yangLee
+  roundsII m n = simp (lt-leb s 255 m, le-leb s 510 n) rounds₁
+
+  roundsIII : 510 < s → Rounds (yangLee s f c) (paperIII l̂ f̂ p̂)
   unfolding yangLee paperIII
-  sameIII m =
+  roundsIII m =
       let m' = lt-leb s 255 (omega arith) in
       either f 510
       (λ l. simp (m', lt-leb s 510 m, le-leb f 510 l, le-leb (f * 1) 510 (omega arith)) round-III-i)
       (λ l.
-      simp (m', lt-leb s 510 m, lt-leb f 510 l, lt-leb (f * 1) 510 (omega arith)) (ap (λ (n : ℕ). 255 - n) round-III-ii))
+      simp (m', lt-leb s 510 m, lt-leb f 510 l, lt-leb (f * 1) 510 (omega arith))
+      (from-white round-III-ii (at-most-255 (case-III-ii h m l))))
 
-  -- the paper's test of l against a whole number is document 01's test of s
-  sameII : 255 < s → s ≤ 510 → yangLee s f c ≡ naikMurthy s f c
-  unfolding yangLee
-  sameII m n = simp (lt-leb s 255 m, le-leb s 510 n)
-
-  same₂ : yangLee s f c ≡ codeOf (paper₂ l̂ f̂ p̂)
+  rounds₂ : Rounds (yangLee s f c) (paper₂ l̂ f̂ p̂)
   unfolding paper₂
-  same₂ =
+  rounds₂ =
       either s 255
-      (λ m. simp (le-leb (s * 1) 255 (omega arith)) (sameI m))
+      (λ m. simp (le-leb (s * 1) 255 (omega arith)) (roundsI m))
       (λ m.
       either s 510
-      (λ n. simp (lt-leb (s * 1) 255 (omega arith), le-leb (s * 1) 510 (omega arith)) (sameII m n ∙ same₁))
-      (λ n. simp (lt-leb (s * 1) 255 (omega arith), lt-leb (s * 1) 510 (omega arith)) (sameIII n)))
+      (λ n. simp (lt-leb (s * 1) 255 (omega arith), le-leb (s * 1) 510 (omega arith)) (roundsII m n))
+      (λ n. simp (lt-leb (s * 1) 255 (omega arith), lt-leb (s * 1) 510 (omega arith)) (roundsIII n)))
 
-  same-by : (m : Method) → byMethod m s f c ≡ codeOf (paperBy m l̂ f̂ p̂)
-  same-by NaikMurthy = same₁
-  same-by YangLee = same₂
+  rounds-by : (m : Method) → Rounds (byMethod m s f c) (paperBy m l̂ f̂ p̂)
+  rounds-by NaikMurthy = rounds₁
+  rounds-by YangLee = rounds₂
 
-same-sample : (m : Method) (s f c : ℕ) → Inside s f c → movedSample m s f c ≡ codeOf (paper m (s over 255) (f over 255) (c over 255))
+sample-rounds : (m : Method) (s f c : ℕ) → Inside s f c → Rounds (movedSample m s f c) (paper m (s over 255) (f over 255) (c over 255))
 unfolding movedSample paper near
-same-sample m s f c h =
+sample-rounds m s f c h =
     either s 0
     (λ l. simp (eq-eqb s 0 (omega arith), le-leb (s * 1) 0 (omega arith)))
     (λ light.
-    let light' = (ne-eqb s 0 (λ z. omega arith)) in
+    let light' = ne-eqb s 0 (λ z. omega arith) in
     let light'' = lt-leb (s * 1) 0 (omega arith) in
     either 765 s
     (λ l. simp (light', light'', eq-eqb s 765 (omega arith), le-leb 765 (s * 1) (omega arith)))
     (λ dark.
     simp (light', light'', ne-eqb s 765 (λ z. omega arith), lt-leb 765 (s * 1) (omega arith))
-    (same-by (record { inside = h; notBlack = light; notWhite = dark }) m)))
+    (rounds-by (record { inside = h; notBlack = light; notWhite = dark }) m)))
 
 pub moves-are-the-papers : MovesAreThePapers
 unfolding moved
 moves-are-the-papers m p f a bytes le =
-    sample-each (movedSample m (intensity p) f) p a
-    ∙ same-sample m (intensity p) f (sample p a) (inside p f bytes le a)
+    rw (sample-each (movedSample m (intensity p) f) p a)
+    (sample-rounds m (intensity p) f (sample p a) (inside p f bytes le a))
 
 exactly : {s f c : ℕ} → Between s f c → Exactly (s over 255) (f over 255) (c over 255)
 exactly {s} {f} {c} h =

@@ -35,9 +35,11 @@ factorBy YangLee = factor₂
 unfoldable pub factor : Method → ℕ → ℕ → Fraction
 factor m s f = cond (eqb s 0) (1 over 1) (cond (eqb s 765) (1 over 1) (factorBy m s f))
 
--- x' − y' is less than a full step above (x − y) × k.
+-- x' − y' is less than a full step above, and less than a full step below, (x − y) × k; both sides times k's denominator.
 abbrev pub withinOneStep : Fraction → ℕ → ℕ → ℕ → ℕ → Type 0
-withinOneStep k x y x' y' = x' * k .den + y * k .num < y' * k .den + x * k .num + k .den
+withinOneStep k x y x' y' =
+    (x' * k .den + y * k .num < y' * k .den + x * k .num + k .den)
+    × (y' * k .den + x * k .num < x' * k .den + y * k .num + k .den)
 
 -- The rules of demand 3 for a pixel p that is written as q, with the entry f for its intensity and the factor k.
 pub record PixelAccurate (k : Fraction) (f : ℕ) (p q : Pixel) : Type 0 where
@@ -48,7 +50,7 @@ pub record PixelAccurate (k : Fraction) (f : ℕ) (p q : Pixel) : Type 0 where
   -- the sum is at most one from the entry
   pub sumAbove : intensity q ≤ f + 1
   pub sumBelow : f ≤ intensity q + 1
-  -- two channels differ by their input difference times the factor, give or take less than a full step (also with a and b exchanged)
+  -- two channels differ by their input difference times the factor, give or take less than a full step
   pub difference : (a b : Channel) → withinOneStep k (sample p a) (sample p b) (sample q a) (sample q b)
   -- the factor is a number
   pub denominator : 0 < k .den

@@ -1,5 +1,6 @@
 -- The two methods of moving a pixel, and document 01's number for each.
-use mathlib.Core.Bool.{Bool, _||_, cond}
+use mathlib.Core.Path.{_≡_}
+use mathlib.Core.Bool.{Bool, true, _||_, cond}
 use Prim.Native.Nat.{ℕ}
 use lib.Dec.{eqb}
 use Rattle.pixel.specs.declared.Method.{Method}
@@ -17,3 +18,10 @@ isMethod n = eqb n (methodNumber NaikMurthy) || eqb n (methodNumber YangLee)
 -- The method of a number that is one of these (of another number nobody asks it).
 abbrev pub methodOf : ℕ → Method
 methodOf n = cond (eqb n (methodNumber NaikMurthy)) NaikMurthy YangLee
+
+-- Claim: a method's number names it, and every number that names a method is that method's. Proved: proofs/Numbers.antt,
+-- `methods-are-numbered`.
+pub record MethodsAreNumbered : Type 0 where
+  pub named : (m : Method) → isMethod (methodNumber m) ≡ true
+  pub back : (m : Method) → methodOf (methodNumber m) ≡ m
+  pub only : (n : ℕ) → isMethod n ≡ true → methodNumber (methodOf n) ≡ n

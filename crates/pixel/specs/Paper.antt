@@ -2,7 +2,7 @@
 -- The paper's l, f(l) and p are an intensity and a target from 0 to 3, and a sample from 0 to 1.
 use mathlib.Core.Path.{_≡_}
 use mathlib.Core.Bool.{cond}
-use Prim.Native.Nat.{ℕ, _-_, _<_, _≤_}
+use Prim.Native.Nat.{ℕ, _+_, _<_, _≤_}
 use lib.Dec.{T}
 use Rattle.rounding.specs.Fraction.{Fraction, whole, _over_, _⊖_, _⊗_, _⊘_, _≼_, nearest}
 use Rattle.pixel.specs.Move.{Channel, sample, InRange, intensity, moved}
@@ -49,17 +49,17 @@ paperBy YangLee = paper₂
 unfoldable pub paper : Method → Fraction → Fraction → Fraction → Exact
 paper m l f p = cond (l ≼ whole 0) (is (whole 0)) (cond (whole 3 ≼ l) (is (whole 1)) (paperBy m l f p))
 
--- The new sample in code values, rounded once: near(255 x), or 255 − near(255 x).
-abbrev pub codeOf : Exact → ℕ
-codeOf (is x) = nearest (whole 255 ⊗ x)
-codeOf (oneMinus x) = 255 - nearest (whole 255 ⊗ x)
+-- n is the exact sample in code values, rounded once: near(255 x), or 255 − near(255 x).
+abbrev pub Rounds : ℕ → Exact → Type 0
+Rounds n (is x) = n ≡ nearest (whole 255 ⊗ x)
+Rounds n (oneMinus x) = n + nearest (whole 255 ⊗ x) ≡ 255
 
--- Claim: each sample of a moved pixel is the paper's sample, at l = s/255, f(l) = f/255 and p = c/255, rounded once.
+-- Claim: each sample of a moved pixel is the paper's, at l = s/255, f(l) = f/255 and p = c/255, rounded once.
 -- Proved: proofs/Paper.antt, `moves-are-the-papers`.
 abbrev pub MovesAreThePapers : Type 0
 MovesAreThePapers =
     (m : Method) (p : Pixel) (f : ℕ) (a : Channel) → InRange p → f ≤ 765
-    → sample (moved m p f) a ≡ codeOf (paper m (intensity p over 255) (f over 255) (sample p a over 255))
+    → Rounds (sample (moved m p f) a) (paper m (intensity p over 255) (f over 255) (sample p a over 255))
 
 -- No divisor of the formulas above is 0, and none of their subtractions is cut off at 0.
 pub record Exactly (l f p : Fraction) : Type 0 where

@@ -1,7 +1,7 @@
 -- Exact fractions of whole numbers, in which the paper's formulas are written.
 use mathlib.Core.Path.{_≡_}
 use mathlib.Core.Bool.{Bool}
-use Prim.Native.Nat.{ℕ, _+_, _-_, _*_}
+use Prim.Native.Nat.{ℕ, _+_, _-_, _*_, _<_}
 use lib.Dec.{leb}
 use Rattle.rounding.specs.Near.{near}
 
@@ -43,7 +43,7 @@ x ≼ y = leb (x .num * y .den) (y .num * x .den)
 
 -- x and y are the same number
 abbrev pub _≈_ : Fraction → Fraction → Type 0
-x ≈ y = x .num * y .den ≡ y .num * x .den
+x ≈ y = (0 < x .den) × (0 < y .den) × (x .num * y .den ≡ y .num * x .den)
 
 -- near of a fraction
 abbrev pub nearest : Fraction → ℕ

@@ -12,11 +12,11 @@ abbrev pub allBelow : (ℕ → Bool) → ℕ → Bool
 allBelow test zero = true
 allBelow test (suc n) = test n && allBelow test n
 
-first-of-both : (a b : Bool) → T (a && b) → T a
+pub first-of-both : (a b : Bool) → T (a && b) → T a
 first-of-both true b h = tt
 first-of-both false b h = h
 
-second-of-both : (a b : Bool) → T (a && b) → T b
+pub second-of-both : (a b : Bool) → T (a && b) → T b
 second-of-both true b h = h
 second-of-both false b h = absurd h
 

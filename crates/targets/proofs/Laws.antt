@@ -1,7 +1,7 @@
 -- The laws of the cube's targets.
 use mathlib.Core.Path.{_≡_, refl}
 use mathlib.Core.Logic.{⊎-elim}
-use mathlib.Core.Bool.{Bool, true, false}
+use mathlib.Core.Bool.{Bool, _&&_}
 use mathlib.Core.List.{List}
 use Prim.Native.Nat.{ℕ, zero, suc, _+_, _*_, _-_, _≤_, _<_}
 use native.Mathlib.Nat.{zero-add, lt-trans, le-of-suc-le-suc, not-suc-le-zero, le-of-lt, le-trans, le-of-eq, le-refl, eq-or-lt-of-le}
@@ -12,11 +12,23 @@ use Rattle.rounding.specs.Fraction.{Fraction, whole, _over_, _⊗_, _⊖_, _≼
 use Rattle.targets.specs.Cube.{G, cube, low, middle, high}
 use Rattle.targets.specs.Paper.{area, added₂, taken₂, taken₃}
 use Rattle.targets.specs.Facts.{TargetsAreRight}
-use Rattle.targets.proofs.EachBetween.{allBelow, each-between}
+use Rattle.targets.proofs.EachBetween.{allBelow, each-between, first-of-both, second-of-both}
 
 -- a claim for each k up to 765, from its test
 upTo765 : (test : ℕ → Bool) → T (allBelow (λ i. test (0 + i)) 766) → (k : ℕ) → k ≤ 765 → T (test k)
 upTo765 test passed k h = each-between test 0 766 passed k (omega arith) (omega arith)
+
+-- whether two fractions are the same number, as a test
+abbrev sameNumber : Fraction → Fraction → Bool
+sameNumber x y = ltb 0 (x .den) && ltb 0 (y .den) && eqb (x .num * y .den) (y .num * x .den)
+
+same-number : (x y : Fraction) → T (sameNumber x y) → x ≈ y
+same-number x y h =
+    let dens = first-of-both (ltb 0 (x .den) && ltb 0 (y .den)) _ h in (
+      ltb→lt 0 (x .den) (first-of-both (ltb 0 (x .den)) _ dens),
+      ltb→lt 0 (y .den) (second-of-both (ltb 0 (x .den)) _ dens),
+      eqb→eq _ _ (second-of-both (ltb 0 (x .den) && ltb 0 (y .den)) _ h),
+    )
 
 -- the table: the test that is computed over all of it, and what it says of each entry
 abbrev follows : List ℕ → ℕ → Bool
@@ -41,10 +53,7 @@ steps-up : ℕ → Bool
 steps-up k = ltb (G k) (G (suc k))
 
 by-equation-11 : ℕ → Bool
-by-equation-11 k =
-    let x = whole (cube 255) ⊗ area (k over 255) in
-    let y = whole (G k) in
-    eqb (x .num * y .den) (y .num * x .den)
+by-equation-11 k = sameNumber (whole (cube 255) ⊗ area (k over 255)) (whole (G k))
 
 -- what rises at each step below n rises from any place to any later one
 rising : (g : ℕ → ℕ) (n : ℕ) → ((k : ℕ) → k < n → g k < g (suc k)) → (j k : ℕ) → j < k → k ≤ n → g j < g k
@@ -58,7 +67,7 @@ steps k h = ltb→lt (G k) (G (suc k)) (each-between steps-up 0 765 tt k (omega 
 
 eq11 : (k : ℕ) → k ≤ 765 → whole (cube 255) ⊗ area (k over 255) ≈ whole (G k)
 unfolding by-equation-11 G area
-eq11 k h = eqb→eq _ _ (upTo765 by-equation-11 tt k h)
+eq11 k h = same-number _ _ (upTo765 by-equation-11 tt k h)
 
 pub targets-are-right : TargetsAreRight
 unfolding G middle-exact high-exact area₂-exact area₃-exact

@@ -7,11 +7,11 @@ use native.Mathlib.Nat.{mul-comm, add-mul, mul-le-mul-right}
 use native.Mathlib.Omega.{arith}
 use borrow.Author.Tests.{le-leb, lt-leb, eq-eqb, ne-eqb}
 use Rattle.rounding.specs.Near.{near}
-use Rattle.rounding.specs.Fraction.{Fraction, _over_}
-use Rattle.rounding.proofs.Laws.{near-le, near-mono, near-sum, near-difference, SumOfThree}
-use Rattle.pixel.specs.Inner.{AtMostWhite, Inside, Between}
+use Rattle.rounding.specs.Fraction.{_over_}
+use Rattle.rounding.proofs.Laws.{near-le, near-mono, near-sum, near-difference, WithinOne}
+use Rattle.pixel.specs.Inner.{AtMostWhite, Between}
 use Rattle.pixel.specs.Move.{Channel, Channel.red, Channel.green, Channel.blue, sample, InRange, intensity, naikMurthy, yangLee, byMethod, movedSample, moved, eachSample}
-use Rattle.pixel.specs.Accuracy.{factor₁, factor₂, factorBy, factor, PixelAccurate, OwnEnds, MovesAreAccurate, EndsStay}
+use Rattle.pixel.specs.Accuracy.{factor₁, factor₂, factorBy, factor, PixelAccurate, MovesAreAccurate, EndsStay}
 use Rattle.pixel.specs.declared.Pixel.{Pixel}
 use Rattle.pixel.specs.declared.Method.{Method}
 use Rattle.pixel.specs.declared.Method.the-variants.{NaikMurthy, YangLee}
@@ -59,7 +59,7 @@ module _ (p : Pixel) (w v : ℕ → ℕ) (n d : ℕ) (line : Line p w v n d) whe
         mul-comm d n,
       )
 
-  rounded-sum : SumOfThree d (line .positive) n (rounded red + rounded green + rounded blue)
+  rounded-sum : WithinOne n (rounded red + rounded green + rounded blue)
   rounded-sum = near-sum d (line .positive) n (v (p .r)) (v (p .g)) (v (p .b)) numerators-sum
 
   -- towards black: the weight is the sample less k, and n is the target

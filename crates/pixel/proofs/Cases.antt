@@ -1,14 +1,14 @@
 -- The cases of the two methods: each one's fraction is at most 255, so that it rounds to a sample.
 use mathlib.Core.Path.{_≡_, refl}
-use mathlib.Core.Bool.{Bool, true, false, cond}
-use Prim.Native.Nat.{ℕ, _+_, _-_, _*_, _<_, _≤_}
+use mathlib.Core.Bool.{Bool, true, false}
+use Prim.Native.Nat.{ℕ, _-_, _*_, _<_, _≤_}
 use native.Mathlib.Nat.{mul-le-mul}
 use native.Mathlib.Omega.{arith}
 use lib.Dec.{leb}
 use borrow.Author.Tests.{leb-true, leb-false}
 use Rattle.rounding.specs.Near.{near}
 use Rattle.rounding.proofs.Laws.{near-le}
-use Rattle.pixel.specs.Inner.{AtMostWhite, Inside, Between}
+use Rattle.pixel.specs.Inner.{AtMostWhite, Between}
 
 pub at-most-255 : {x n d : ℕ} → AtMostWhite x n d → near (x * n) d ≤ 255
 at-most-255 {x} {n} {d} h = near-le d (h .positive) (x * n) 255 (h .small)

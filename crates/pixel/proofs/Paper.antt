@@ -1,17 +1,16 @@
 -- Document 01's lines round the samples of source 004.
-use mathlib.Core.Path.{_≡_, refl, sym, ap, ap₂, _∙_}
+use mathlib.Core.Path.{_≡_, sym, ap, ap₂, _∙_}
 use Prim.Native.Nat.{ℕ, _+_, _-_, _*_, _<_, _≤_}
 use native.Mathlib.Nat.{mul-one, one-mul, mul-assoc, mul-comm, mul-left-comm}
 use native.Mathlib.Omega.{arith}
 use lib.Dec.{le→leb}
 use borrow.Author.Tests.{le-leb, lt-leb, eq-eqb, ne-eqb}
 use Rattle.rounding.specs.Near.{near}
-use Rattle.rounding.specs.Fraction.{Fraction, whole, _over_, _⊖_, _⊗_, _⊘_, _≼_, _≈_, nearest}
+use Rattle.rounding.specs.Fraction.{Fraction, whole, _over_, _⊖_, _⊗_, _⊘_, nearest}
 use Rattle.rounding.proofs.Laws.{near-same}
 use Rattle.pixel.specs.Inner.{Inside, Between}
-use Rattle.pixel.specs.Move.{Channel, sample, InRange, intensity, naikMurthy, yangLee, byMethod, movedSample, moved}
-use Rattle.pixel.specs.Paper.{Exact, Exact.is, Exact.oneMinus, paper₁, paper₂, paperI, paperIII, paperBy, paper, Rounds, MovesAreThePapers, Exactly, PapersAreExact}
-use Rattle.pixel.specs.declared.Pixel.{Pixel}
+use Rattle.pixel.specs.Move.{sample, intensity, naikMurthy, yangLee, byMethod, movedSample, moved}
+use Rattle.pixel.specs.Paper.{paper₁, paper₂, paperI, paperIII, paperBy, paper, Rounds, MovesAreThePapers, Exactly, PapersAreExact}
 use Rattle.pixel.specs.declared.Method.{Method}
 use Rattle.pixel.specs.declared.Method.the-variants.{NaikMurthy, YangLee}
 use Rattle.pixel.proofs.Channels.{sample-each, inside}

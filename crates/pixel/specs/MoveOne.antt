@@ -1,9 +1,9 @@
 -- The single move, an outside call (document 01, "Who can cause which refusal": single move 7, 9).
-use mathlib.Core.Bool.{Bool, not, cond}
-use mathlib.Core.List.{List, [], _∷_}
+use mathlib.Core.Bool.{not, cond}
+use mathlib.Core.List.{[], _∷_}
 use Prim.Native.Nat.{ℕ}
 use lib.Dec.{ltb, eqb}
-use Rattle.refusal.specs.Refusal.{Check, _refuses_, firstOf}
+use Rattle.refusal.specs.Refusal.{_refuses_, firstOf}
 use Rattle.pixel.specs.Methods.{isMethod, methodOf}
 use Rattle.pixel.specs.Move.{moved}
 use Rattle.pixel.specs.declared.Pixel.{Pixel}

@@ -13,6 +13,7 @@ pub enum Method {
     YangLee,
 }
 
+// Three samples, 0 to 255 each.
 pub struct Pixel {
     pub r: u8,
     pub g: u8,
@@ -33,6 +34,7 @@ fn rounded_product(x: u64, n: u64, d: u64) -> u64
     rounding::rounded(x * n, d)
 }
 
+// A number of at most 255 as a sample.
 fn byte(x: u64) -> u8
     requires { ⌜ x ≤ 255 ⌝ }
     ensures { λ r. ⌜ r ≡ x ⌝ }
@@ -105,6 +107,7 @@ fn yang_lee(s: u64, f: u64, c: u64) -> u8
     yang_lee_bright(s, f, c)
 }
 
+// A sample of a pixel that is neither black nor white.
 fn by_method(method: Method, s: u64, f: u64, c: u64) -> u8
     requires { ⌜ Between s f c ⌝ }
     ensures { λ r. ⌜ r ≡ byMethod method s f c ⌝ }
@@ -176,6 +179,7 @@ fn move_number(method: u32, target: u32) -> u32
     0
 }
 
+// What a refused single move hands back: black beside its number.
 fn refused_move(number: u32) -> Moved
     ensures { λ r. ⌜ r ≡ refusedMove number ⌝ }
 {

@@ -1,5 +1,5 @@
 -- Refusals as ordered lists (document 01, "Who can cause which refusal": "The first that applies is named").
-use mathlib.Core.Bool.{Bool, true, false, cond}
+use mathlib.Core.Bool.{Bool, cond}
 use mathlib.Core.List.{List, [], _∷_}
 use Prim.Native.Nat.{ℕ}
 

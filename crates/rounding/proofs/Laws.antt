@@ -48,6 +48,11 @@ near-up q r d n e less half =
 pub near-down : (q r d n : ℕ) → q * d + r ≡ n → 2 * r < d → q ≡ near n d
 near-down q r d n e less = near-means q n d (omega arith) .0 (record { above = omega arith; below = omega arith })
 
+-- q is w, give or take 1
+pub record WithinOne (w q : ℕ) : Type 0 where
+  pub above : q ≤ w + 1
+  pub below : w ≤ q + 1
+
 module _ (d : ℕ) (positive : 0 < d) where
   -- at most m, if the fraction is
   pub near-le : (n m : ℕ) → n ≤ m * d → near n d ≤ m
@@ -59,11 +64,7 @@ module _ (d : ℕ) (positive : 0 < d) where
       less-step (near n d) (near m d) d (omega (arith, near-window n d positive, near-window m d positive))
 
   -- the sum of three: where the fractions add up to the whole number w, the rounded ones add up to w, give or take 1
-  pub record SumOfThree (w q : ℕ) : Type 0 where
-    pub above : q ≤ w + 1
-    pub below : w ≤ q + 1
-
-  pub near-sum : (w n m k : ℕ) → n + m + k ≡ w * d → SumOfThree w (near n d + near m d + near k d)
+  pub near-sum : (w n m k : ℕ) → n + m + k ≡ w * d → WithinOne w (near n d + near m d + near k d)
   near-sum w n m k e =
       let q = near n d + near m d + near k d in
       let wn = near-window n d positive in

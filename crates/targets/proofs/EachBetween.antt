@@ -1,5 +1,5 @@
 -- The carrying lemma of this project's tables: a claim about each number of a range, from one test that is computed over all of it.
-use mathlib.Core.Path.{_≡_, subst, sym}
+use mathlib.Core.Path.{subst}
 use mathlib.Core.Logic.{⊎-elim}
 use mathlib.Core.Bool.{Bool, true, false, _&&_}
 use Prim.Native.Nat.{ℕ, zero, suc, _+_, _-_, _<_, _≤_}

@@ -4,12 +4,12 @@ use mathlib.Core.Logic.{⊎-elim}
 use mathlib.Core.Bool.{Bool, _&&_}
 use mathlib.Core.List.{List}
 use Prim.Native.Nat.{ℕ, zero, suc, _+_, _*_, _-_, _≤_, _<_}
-use native.Mathlib.Nat.{zero-add, lt-trans, le-of-suc-le-suc, not-suc-le-zero, le-of-lt, le-trans, le-of-eq, le-refl, eq-or-lt-of-le}
+use native.Mathlib.Nat.{lt-trans, le-of-suc-le-suc, not-suc-le-zero, le-of-lt, eq-or-lt-of-le}
 use native.Mathlib.Omega.{arith}
 use lib.Dec.{T, leb, ltb, eqb, eqb→eq, ltb→lt, leb→le, le→leb}
 use lib.ListN.{getD}
-use Rattle.rounding.specs.Fraction.{Fraction, whole, _over_, _⊗_, _⊖_, _≼_, _≈_}
-use Rattle.targets.specs.Cube.{G, cube, low, middle, high}
+use Rattle.rounding.specs.Fraction.{Fraction, whole, _over_, _⊗_, _≼_, _≈_}
+use Rattle.targets.specs.Cube.{G, cube}
 use Rattle.targets.specs.Paper.{area, added₂, taken₂, taken₃}
 use Rattle.targets.specs.Facts.{TargetsAreRight}
 use Rattle.targets.proofs.EachBetween.{allBelow, each-between, first-of-both, second-of-both}

@@ -2,7 +2,7 @@
 use mathlib.Core.Path.{_≡_}
 use Prim.Native.Nat.{ℕ, _+_, _*_, _-_, _≤_, _<_}
 use lib.Dec.{T}
-use Rattle.rounding.specs.Fraction.{Fraction, whole, _over_, _⊗_, _≼_, _≈_}
+use Rattle.rounding.specs.Fraction.{whole, _over_, _⊗_, _≼_, _≈_}
 use Rattle.targets.specs.Cube.{G, cube, low, middle, high}
 use Rattle.targets.specs.Paper.{area, added₂, taken₂, taken₃}
 

@@ -1,3 +1,4 @@
+-- `pixel::by_method` meets its contract.
 use borrow.Author.Needs.{needs}
 use Rattle.pixel.proofs.by_method.Statement.{statement}
 use Rattle.pixel.proofs.by_method.Tie as tie

@@ -1,3 +1,4 @@
+-- `pixel::is_method` meets its contract.
 use borrow.Author.Tests.{eq-eqb, ne-eqb}
 use Rattle.pixel.proofs.is_method.Statement.{statement}
 use Rattle.pixel.proofs.is_method.Tie as tie

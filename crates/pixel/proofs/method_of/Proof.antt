@@ -1,3 +1,4 @@
+-- `pixel::method_of` meets its contract.
 use borrow.Author.Tests.{eq-eqb, ne-eqb}
 use Rattle.pixel.proofs.method_of.Statement.{statement}
 use Rattle.pixel.proofs.method_of.Tie as tie

@@ -1,3 +1,4 @@
+-- `pixel::move_number` meets its contract: each return is the first check that applies.
 use mathlib.Core.Path.{_≡_, ap, sym, _∙_}
 use mathlib.Core.Bool.{true, false, not}
 use borrow.Author.Needs.{needs}

@@ -1,4 +1,4 @@
-use mathlib.Core.Path.{_≡_}
+-- `pixel::move_pixel` meets its contract, channel by channel.
 use borrow.Author.Needs.{needs}
 use Rattle.pixel.specs.Move.{moved}
 use Rattle.pixel.proofs.move_pixel.Statement.{statement}

@@ -1,3 +1,4 @@
+-- `pixel::moved_sample` meets its contract: black and white stay, and any other pixel moves by its method.
 use borrow.Author.Needs.{needs}
 use borrow.Author.Tests.{eq-eqb, ne-eqb}
 use Rattle.pixel.specs.Move.{movedSample}

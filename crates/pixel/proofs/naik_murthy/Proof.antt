@@ -1,3 +1,4 @@
+-- `pixel::naik_murthy` meets its contract: cases (i) and (ii) of the paper.
 use borrow.Author.Needs.{needs}
 use borrow.Author.Tests.{le-leb, lt-leb}
 use Rattle.pixel.specs.Move.{naikMurthy}

@@ -1,3 +1,4 @@
+-- `pixel::scaled` meets its contract: the fraction is at most 255, so what it rounds to is a sample.
 use native.Mathlib.Omega.{arith}
 use borrow.Author.Needs.{needs}
 use Rattle.pixel.proofs.Cases.{at-most-255}

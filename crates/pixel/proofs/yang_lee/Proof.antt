@@ -1,3 +1,4 @@
+-- `pixel::yang_lee` meets its contract: cases (I), (II) and (III) of the paper.
 use borrow.Author.Needs.{needs}
 use borrow.Author.Tests.{le-leb, lt-leb}
 use Rattle.pixel.specs.Move.{yangLee}

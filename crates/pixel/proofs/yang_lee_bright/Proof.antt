@@ -1,3 +1,4 @@
+-- `pixel::yang_lee_bright` meets its contract: cases (III-i) and (III-ii) of the paper.
 use mathlib.Core.Path.{_≡_}
 use mathlib.Core.Bool.{false}
 use Prim.Native.Nat.{ℕ, _<_}

@@ -1,3 +1,4 @@
+-- `pixel::yang_lee_dark` meets its contract: cases (I-i) and (I-ii) of the paper.
 use borrow.Author.Needs.{needs}
 use borrow.Author.Tests.{le-leb, lt-leb}
 use Rattle.pixel.specs.Move.{yangLee}

@@ -1,3 +1,4 @@
+-- `rounding::rounded` meets its contract: the quotient and the remainder decide the nearest whole number.
 use native.Mathlib.Nat.{mod-lt, div-le-self, div-add-mod'}
 use native.Mathlib.Omega.{arith}
 use borrow.Author.Needs.{needs}

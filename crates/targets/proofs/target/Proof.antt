@@ -1,3 +1,4 @@
+-- `targets::target` meets its contract: one test is computed over the whole table, and the carrying lemma takes it to the entry read.
 use borrow.Author.Needs.{needs}
 use borrow.Table.Row.{get}
 use Rattle.targets.specs.Cube.{G}

@@ -1,7 +1,8 @@
 """Every claim that specs/ states is proved where its comment says.
 
-A claim's comment ends in "Proved: proofs/FILE, `name`." and stands above the claim's definition. The file must declare
-`pub name : CLAIM`; the crate's own check then proves it. A named claim without such a comment fails too.
+A claim is a definition without parameters that is a type: `abbrev pub NAME : Type 0`, or a record whose comment says so. Its
+comment ends in "Proved: proofs/FILE, `proof`." and stands above it. That file must bring NAME in from the claim's own file,
+must not define it anew, and must declare `pub proof : NAME`; the crate's check then proves it.
 """
 
 import pathlib
@@ -10,33 +11,50 @@ import sys
 
 PROVED = re.compile(r"Proved: (proofs/\S+\.antt), `([^`]+)`")
 DEFINED = re.compile(r"^(?:abbrev pub|unfoldable pub|pub record|pub data) (\S+)", re.M)
+BARE = re.compile(r"^abbrev pub (\S+) : Type 0$", re.M)
 
 
-def claims(text):
-    """The (claim, file, proof) of each comment that says where a claim is proved."""
-    for found in PROVED.finditer(text):
-        defined = DEFINED.search(text, found.end())
-        yield (defined.group(1) if defined else None), found.group(1), found.group(2)
+def without_comments(text):
+    text = re.sub(r"\{-.*?-\}", "", text, flags=re.S)
+    return re.sub(r"--.*", "", text)
+
+
+def faults(crate, spec, claim, file, proof):
+    """What is wrong with the proof of a claim, if anything."""
+    path = crate / file
+    if not path.is_file():
+        return [f"{path} is missing"]
+    text = without_comments(path.read_text(encoding="utf-8"))
+    name, module = re.escape(claim), re.escape(f"Rattle.{crate.name}.specs.{spec.stem}")
+    found = []
+    if not re.search(rf"^pub {re.escape(proof)} : {name}$", text, re.M):
+        found.append(f"{path} has no `pub {proof} : {claim}`")
+    if not re.search(rf"^use {module}\.\{{(?:[^}}]*, )?{name}[,}}]", text, re.M):
+        found.append(f"{path} does not bring {claim} in from {spec}")
+    if re.search(rf"^\s*(?:abbrev |unfoldable |pub |record |data )*{name} [:=(]", text, re.M):
+        found.append(f"{path} defines {claim} anew")
+    return found
 
 
 def main():
     wrong, count = [], 0
     for spec in sorted(pathlib.Path("crates").glob("*/specs/*.antt")):
+        crate = spec.parent.parent
         # a comment may run over several lines
         text = re.sub(r"\n\s*-- ", " ", spec.read_text(encoding="utf-8"))
-        if text.count("Claim:") > len(PROVED.findall(text)):
-            wrong.append(f"{spec}: a claim's comment does not say where it is proved")
-        for claim, file, proof in claims(text):
+        said = set()
+        for found in PROVED.finditer(text):
+            claim = DEFINED.search(text, found.end()).group(1)
+            said.add(claim)
             count += 1
-            where = spec.parent.parent / file
-            proofs = where.read_text(encoding="utf-8") if where.is_file() else ""
-            if f"\npub {proof} : {claim}\n" not in proofs:
-                wrong.append(f"{spec}: {claim}: {where} has no `pub {proof} : {claim}`")
+            wrong += faults(crate, spec, claim, *found.groups())
+        for claim in set(BARE.findall(text)) - said:
+            wrong.append(f"{spec}: {claim}: no comment says where it is proved")
     for line in wrong:
         print(line)
     if count == 0:
         sys.exit("no claim found")
-    print(f"{count} claims, {len(wrong)} without their proof")
+    print(f"{count} claims, {len(wrong)} faults")
     sys.exit(1 if wrong else 0)
 
 

@@ -1,8 +1,9 @@
-"""Every must-fail edit was refused because a fact no longer holds, and not because the proof no longer fits the code's shape.
+"""No must-fail edit was refused merely because a proof file no longer fits the code's shape.
 
-Reads the logs that the gate's must-fail run left below target/. A refusal counts if a named fact is not shown: an error at a
-declaration of a proof, or a function without a proof file of which a need is not closed. An edit whose log tells of a need
-that is missing or out of place shows nothing about the contract, and fails here.
+Reads the logs that the gate's must-fail run left below target/, and names for each edit the first fact that is not shown: an
+error at a declaration of a proof, or a need that a function without a proof file leaves open. An edit whose log tells of a need
+that is missing or out of place shows nothing about the contract, and fails here. That the fact is false, and not only out of the
+proof's reach, is for the author of an edit to read in its log.
 """
 
 import pathlib
@@ -19,9 +20,9 @@ def reason(log):
     """The first fact that is not shown, or None."""
     for found in ERROR.finditer(log):
         if not FOLLOWS.search(found.group(2)):
-            return f"`{found.group(1)}` does not hold"
+            return f"not shown: `{found.group(1)}`"
     found = OPEN.search(log)
-    return f"{found.group(1)}: not closed: {found.group(2).split(';')[0]}" if found else None
+    return f"not shown: {found.group(2).split(';')[0]} of {found.group(1)}" if found else None
 
 
 def main():

@@ -1,22 +1,22 @@
 -- A moved pixel is accurate. The rules are shown once, over weights of the samples and a fraction; each of document 01's lines is
 -- an instance.
-use mathlib.Core.Path.{_≡_, refl, sym, ap}
+use mathlib.Core.Path.{_≡_, refl, sym, ap, subst₂}
 use mathlib.Core.Logic.{⊎-elim}
 use Prim.Native.Nat.{ℕ, _+_, _-_, _*_, _<_, _≤_}
 use native.Mathlib.Nat.{mul-comm, add-mul, mul-le-mul-right}
 use native.Mathlib.Omega.{arith}
 use borrow.Author.Tests.{le-leb, lt-leb, eq-eqb, ne-eqb}
 use Rattle.rounding.specs.Near.{near}
-use Rattle.rounding.specs.Fraction.{_over_}
+use Rattle.rounding.specs.Fraction.{Fraction, _over_}
 use Rattle.rounding.proofs.Laws.{near-le, near-mono, near-sum, near-difference, WithinOne}
-use Rattle.pixel.specs.Inner.{AtMostWhite, Between}
+use Rattle.pixel.specs.Inner.{AtMostWhite, MovingSample}
 use Rattle.pixel.specs.Move.{Channel, Channel.red, Channel.green, Channel.blue, sample, InRange, intensity, naikMurthy, yangLee, byMethod, movedSample, moved, eachSample}
 use Rattle.pixel.specs.Accuracy.{factor₁, factor₂, factorBy, factor, PixelAccurate, MovesAreAccurate, EndsStay}
 use Rattle.pixel.specs.declared.Pixel.{Pixel}
 use Rattle.pixel.specs.declared.Method.{Method}
 use Rattle.pixel.specs.declared.Method.the-variants.{NaikMurthy, YangLee}
-use Rattle.pixel.proofs.Channels.{sample-each, inside, black-samples, white-samples}
-use Rattle.pixel.proofs.Cases.{either, case-i, case-ii, case-I-i, case-I-ii, case-III-i, case-III-ii}
+use Rattle.pixel.proofs.Channels.{sample-each, each-same, inside, black-samples, white-samples}
+use Rattle.pixel.proofs.Cases.{either, case-i, case-ii, case-I-i, case-I-ii, case-III-i, case-III-ii, naikMurthy-i, naikMurthy-ii, yangLee-I-i, yangLee-I-ii, yangLee-II, yangLee-III-i, yangLee-III-ii}
 
 -- A line takes the sample c to near(numerator c / d), or to 255 less that. The numerator is the sample's weight times n, and the
 -- weights of the three samples add up to d.
@@ -138,8 +138,8 @@ module _ (p : Pixel) (f : ℕ) (bytes : InRange p) (le : f ≤ 765) (light : 0 <
   abbrev s : ℕ
   s = intensity p
 
-  between : (a : Channel) → Between s f (sample p a)
-  between a = record { inside = inside p f bytes le a; notBlack = light; notWhite = dark }
+  moving : (a : Channel) → MovingSample s f (sample p a)
+  moving a = record { inside = inside p f bytes le a; notBlack = light; notWhite = dark }
 
   -- near(c × f / s)
   line-c : ((a : Channel) → AtMostWhite (sample p a) f s) → PixelAccurate (f over s) f p (eachSample (λ c. near (c * f) s) p)
@@ -179,13 +179,13 @@ module _ (p : Pixel) (f : ℕ) (bytes : InRange p) (le : f ≤ 765) (light : 0 <
       f
       s
       (omega arith)
-      (λ a. omega (arith, between a))
+      (λ a. omega (arith, moving a))
 
   -- near(f × (t − d) / (2 × t))
   line-t-d : 510 < s → ((a : Channel) → AtMostWhite f (765 - s - (255 - sample p a)) (2 * (765 - s)))
       → PixelAccurate (f over (2 * (765 - s))) f p (eachSample (λ c. near (f * (765 - s - (255 - c))) (2 * (765 - s))) p)
   line-t-d bright fits =
-      let less : (a : Channel) → 765 - s - (255 - sample p a) + (s - 510) ≡ sample p a = λ a. omega (arith, between a) in
+      let less : (a : Channel) → 765 - s - (255 - sample p a) + (s - 510) ≡ sample p a = λ a. omega (arith, moving a) in
       towards-black p (λ c. 765 - s - (255 - c)) (λ c. f * (765 - s - (255 - c))) f (2 * (765 - s))
       (record {
         positive = omega (arith, dark);
@@ -196,31 +196,43 @@ module _ (p : Pixel) (f : ℕ) (bytes : InRange p) (le : f ≤ 765) (light : 0 <
       (s - 510)
       less
 
+  -- a move that is one of these lines at each sample, with that line's factor
+  by-line : {k k' : Fraction} {to line : ℕ → ℕ} → k' ≡ k → ((c : ℕ) → to c ≡ line c)
+      → PixelAccurate k f p (eachSample line p) → PixelAccurate k' f p (eachSample to p)
+  by-line same-factor same-samples accurate =
+      subst₂ (λ (k : Fraction) (q : Pixel). PixelAccurate k f p q) (sym same-factor) (sym (each-same p same-samples)) accurate
+
   accurate₁ : PixelAccurate (factor₁ s f) f p (eachSample (naikMurthy s f) p)
-  unfolding naikMurthy factor₁
+  unfolding factor₁
   accurate₁ =
       either f s
-      (λ l. simp (le-leb _ _ l) (line-c (λ a. case-i (between a) l)))
+      (λ l. by-line (simp (le-leb f s l)) (λ c. naikMurthy-i s f c l) (line-c (λ a. case-i (moving a) l)))
       (λ l.
-      simp (lt-leb _ _ l) (line-d (λ c. (255 - c) * (765 - f)) (λ c. refl) (λ a. case-ii (between a) l .small)))
+      by-line (simp (lt-leb f s l)) (λ c. naikMurthy-ii s f c l)
+      (line-d (λ c. (255 - c) * (765 - f)) (λ c. refl) (λ a. case-ii (moving a) l .small)))
 
   accurate₂ : PixelAccurate (factor₂ s f) f p (eachSample (yangLee s f) p)
-  unfolding yangLee factor₂
+  unfolding factor₂
   accurate₂ =
       either s 255
       (λ m.
       either f 255
-      (λ l. simp (le-leb _ _ m, le-leb _ _ l) (line-c (λ a. case-I-i (between a) m l)))
-      (λ l. simp (le-leb _ _ m, lt-leb _ _ l) (line-s-c (λ a. case-I-ii (between a) m l))))
+      (λ l.
+      by-line (simp (le-leb s 255 m, le-leb f 255 l)) (λ c. yangLee-I-i s f c m l) (line-c (λ a. case-I-i (moving a) m l)))
+      (λ l.
+      by-line (simp (le-leb s 255 m, lt-leb f 255 l)) (λ c. yangLee-I-ii s f c m l)
+      (line-s-c (λ a. case-I-ii (moving a) m l))))
       (λ m.
       either s 510
-      (λ n. simp (lt-leb _ _ m, le-leb _ _ n) accurate₁)
+      (λ n. by-line (simp (lt-leb s 255 m, le-leb s 510 n)) (λ c. yangLee-II s f c m n) accurate₁)
       (λ n.
       either f 510
-      (λ l. simp (lt-leb _ _ m, lt-leb _ _ n, le-leb _ _ l) (line-t-d n (λ a. case-III-i (between a) n l)))
       (λ l.
-      simp (lt-leb _ _ m, lt-leb _ _ n, lt-leb _ _ l)
-      (line-d (λ c. (765 - f) * (255 - c)) (λ c. mul-comm (765 - f) (255 - c)) (λ a. case-III-ii (between a) n l .small)))))
+      by-line (simp (lt-leb s 255 m, lt-leb s 510 n, le-leb f 510 l)) (λ c. yangLee-III-i s f c n l)
+      (line-t-d n (λ a. case-III-i (moving a) n l)))
+      (λ l.
+      by-line (simp (lt-leb s 255 m, lt-leb s 510 n, lt-leb f 510 l)) (λ c. yangLee-III-ii s f c n l)
+      (line-d (λ c. (765 - f) * (255 - c)) (λ c. mul-comm (765 - f) (255 - c)) (λ a. case-III-ii (moving a) n l .small)))))
 
   accurate-by : (m : Method) → PixelAccurate (factorBy m s f) f p (eachSample (byMethod m s f) p)
   accurate-by NaikMurthy = accurate₁

@@ -1,20 +1,52 @@
--- The cases of the two methods: each one's fraction is at most 255, so that it rounds to a sample.
+-- The cases of the two methods, by the paper's numbers for them: which line of document 01 each is, and that its fraction is at
+-- most 255, so that it rounds to a sample.
 use mathlib.Core.Path.{_≡_, refl}
 use mathlib.Core.Bool.{Bool, true, false}
 use Prim.Native.Nat.{ℕ, _-_, _*_, _<_, _≤_}
 use native.Mathlib.Nat.{mul-le-mul}
 use native.Mathlib.Omega.{arith}
 use lib.Dec.{leb}
-use borrow.Author.Tests.{leb-true, leb-false}
+use borrow.Author.Tests.{leb-true, leb-false, le-leb, lt-leb}
 use Rattle.rounding.specs.Near.{near}
 use Rattle.rounding.proofs.Laws.{near-le}
-use Rattle.pixel.specs.Inner.{AtMostWhite, Between}
+use Rattle.pixel.specs.Move.{naikMurthy, yangLee}
+use Rattle.pixel.specs.Inner.{AtMostWhite, MovingSample}
 
 pub at-most-255 : {x n d : ℕ} → AtMostWhite x n d → near (x * n) d ≤ 255
 at-most-255 {x} {n} {d} h = near-le d (h .positive) (x * n) 255 (h .small)
 
--- the cases, by the paper's numbers for them
-module _ {s f c : ℕ} (h : Between s f c) where
+-- the line of each case
+module _ (s f c : ℕ) where
+  pub naikMurthy-i : f ≤ s → naikMurthy s f c ≡ near (c * f) s
+  unfolding naikMurthy
+  naikMurthy-i l = simp (le-leb f s l)
+
+  pub naikMurthy-ii : s < f → naikMurthy s f c ≡ 255 - near ((255 - c) * (765 - f)) (765 - s)
+  unfolding naikMurthy
+  naikMurthy-ii l = simp (lt-leb f s l)
+
+  pub yangLee-I-i : s ≤ 255 → f ≤ 255 → yangLee s f c ≡ near (c * f) s
+  unfolding yangLee
+  yangLee-I-i m l = simp (le-leb s 255 m, le-leb f 255 l)
+
+  pub yangLee-I-ii : s ≤ 255 → 255 < f → yangLee s f c ≡ 255 - near ((765 - f) * (s - c)) (2 * s)
+  unfolding yangLee
+  yangLee-I-ii m l = simp (le-leb s 255 m, lt-leb f 255 l)
+
+  pub yangLee-II : 255 < s → s ≤ 510 → yangLee s f c ≡ naikMurthy s f c
+  unfolding yangLee
+  yangLee-II m n = simp (lt-leb s 255 m, le-leb s 510 n)
+
+  pub yangLee-III-i : 510 < s → f ≤ 510 → yangLee s f c ≡ near (f * (765 - s - (255 - c))) (2 * (765 - s))
+  unfolding yangLee
+  yangLee-III-i m l = simp (lt-leb s 255 (omega arith), lt-leb s 510 m, le-leb f 510 l)
+
+  pub yangLee-III-ii : 510 < s → 510 < f → yangLee s f c ≡ 255 - near ((765 - f) * (255 - c)) (765 - s)
+  unfolding yangLee
+  yangLee-III-ii m l = simp (lt-leb s 255 (omega arith), lt-leb s 510 m, lt-leb f 510 l)
+
+-- the fraction of each case
+module _ {s f c : ℕ} (h : MovingSample s f c) where
   pub case-i : f ≤ s → AtMostWhite c f s
   case-i l = record { positive = h .notBlack; divisor = omega arith; small = mul-le-mul (h .inside .byte) l }
 

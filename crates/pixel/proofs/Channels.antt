@@ -2,7 +2,7 @@
 use mathlib.Core.Path.{_≡_, refl}
 use Prim.Native.Nat.{ℕ, _≤_}
 use native.Mathlib.Omega.{arith}
-use Rattle.pixel.specs.Inner.{Inside}
+use Rattle.pixel.specs.Inner.{PixelSample}
 use Rattle.pixel.specs.Move.{Channel, Channel.red, Channel.green, Channel.blue, sample, InRange, intensity, eachSample}
 use Rattle.pixel.specs.declared.Pixel.{Pixel}
 
@@ -11,8 +11,11 @@ sample-each g p red = refl
 sample-each g p green = refl
 sample-each g p blue = refl
 
+pub each-same : (p : Pixel) {to line : ℕ → ℕ} → ((c : ℕ) → to c ≡ line c) → eachSample to p ≡ eachSample line p
+each-same p same = λ i. record { r = same (p .r) i; g = same (p .g) i; b = same (p .b) i }
+
 -- a sample and the intensity of its pixel
-pub inside : (p : Pixel) (f : ℕ) → InRange p → f ≤ 765 → (a : Channel) → Inside (intensity p) f (sample p a)
+pub inside : (p : Pixel) (f : ℕ) → InRange p → f ≤ 765 → (a : Channel) → PixelSample (intensity p) f (sample p a)
 inside p f bytes le red = omega (arith, bytes red, bytes green, bytes blue)
 inside p f bytes le green = omega (arith, bytes red, bytes green, bytes blue)
 inside p f bytes le blue = omega (arith, bytes red, bytes green, bytes blue)

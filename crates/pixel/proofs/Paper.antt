@@ -1,20 +1,20 @@
 -- Document 01's lines round the samples of source 004.
-use mathlib.Core.Path.{_≡_, sym, ap, ap₂, _∙_}
-use Prim.Native.Nat.{ℕ, _+_, _-_, _*_, _<_, _≤_}
-use native.Mathlib.Nat.{mul-one, one-mul, mul-assoc, mul-comm, mul-left-comm}
+use mathlib.Core.Path.{_≡_, refl, sym, ap, ap₂, subst⁻¹, subst₂, _∙_}
+use Prim.Native.Nat.{ℕ, _-_, _*_, _<_, _≤_}
+use native.Mathlib.Nat.{mul-one, one-mul, mul-assoc, mul-comm, mul-left-comm, mul-le-mul-right, le-of-mul-le-mul-left}
 use native.Mathlib.Omega.{arith}
-use lib.Dec.{le→leb}
+use lib.Dec.{T, le→leb}
 use borrow.Author.Tests.{le-leb, lt-leb, eq-eqb, ne-eqb}
 use Rattle.rounding.specs.Near.{near}
-use Rattle.rounding.specs.Fraction.{Fraction, whole, _over_, _⊖_, _⊗_, _⊘_, nearest}
+use Rattle.rounding.specs.Fraction.{Fraction, whole, _over_, _⊖_, _⊗_, _⊘_, _≼_, _≈_, nearest}
 use Rattle.rounding.proofs.Laws.{near-same}
-use Rattle.pixel.specs.Inner.{Inside, Between}
+use Rattle.pixel.specs.Inner.{AtMostWhite, PixelSample, MovingSample}
 use Rattle.pixel.specs.Move.{sample, intensity, naikMurthy, yangLee, byMethod, movedSample, moved}
-use Rattle.pixel.specs.Paper.{paper₁, paper₂, paperI, paperIII, paperBy, paper, Rounds, MovesAreThePapers, Exactly, PapersAreExact}
+use Rattle.pixel.specs.Paper.{Exact, Exact.is, Exact.oneMinus, paper₁, paper₂, paperI, paperIII, paperBy, paper, Rounds, MovesRoundThePaper, InCube, PaperStaysInTheCube, NothingCutOff, FormulasAreExact}
 use Rattle.pixel.specs.declared.Method.{Method}
 use Rattle.pixel.specs.declared.Method.the-variants.{NaikMurthy, YangLee}
 use Rattle.pixel.proofs.Channels.{sample-each, inside}
-use Rattle.pixel.proofs.Cases.{either, at-most-255, case-ii, case-I-ii, case-III-ii}
+use Rattle.pixel.proofs.Cases.{either, at-most-255, case-i, case-ii, case-I-i, case-I-ii, case-III-i, case-III-ii, naikMurthy-i, naikMurthy-ii, yangLee-I-i, yangLee-I-ii, yangLee-II, yangLee-III-i, yangLee-III-ii}
 
 -- x/255 divided by z/255
 abbrev ratio : ℕ → ℕ → Fraction
@@ -33,29 +33,64 @@ one-minus k = ap (λ (n : ℕ). (255 - n) over 255) (mul-one k)
 one-minus-ratio : (x z : ℕ) → whole 1 ⊖ ratio x z ≡ ratio (z - x) z
 one-minus-ratio x z = ap₂ _over_ (omega arith) (omega arith)
 
+-- document 01's fraction n / d is 255 times the paper's fraction e
+record Is255Times (n d : ℕ) (e : Fraction) : Type 0 where
+  same : n over d ≈ whole 255 ⊗ e
+
 -- x × y / z is 255 times the product of x/255 and the ratio of y and z, in either order; and with 2 × z it is half of that
 module _ (x y z : ℕ) (positive : 0 < z) where
-  ratio-first : near (x * y) z ≡ nearest (whole 255 ⊗ (ratio y z ⊗ x over 255))
-  ratio-first =
-      near-same (x * y) z (255 * (255 * y * x)) (1 * (255 * z * 255)) positive (omega arith)
-      (simp (one-mul, mul-assoc, mul-comm, mul-left-comm))
+  ratio-first : Is255Times (x * y) z (ratio y z ⊗ x over 255)
+  ratio-first = record { same = (positive, omega arith, ac) }
+    where
+      ac : x * y * (1 * (255 * z * 255)) ≡ 255 * (255 * y * x) * z
+      ac = simp (one-mul, mul-assoc, mul-comm, mul-left-comm)
 
-  ratio-last : near (x * y) z ≡ nearest (whole 255 ⊗ (x over 255 ⊗ ratio y z))
-  ratio-last =
-      near-same (x * y) z (255 * (x * (255 * y))) (1 * (255 * (255 * z))) positive (omega arith)
-      (simp (one-mul, mul-assoc, mul-comm, mul-left-comm))
+  ratio-last : Is255Times (x * y) z (x over 255 ⊗ ratio y z)
+  ratio-last = record { same = (positive, omega arith, ac) }
+    where
+      ac : x * y * (1 * (255 * (255 * z))) ≡ 255 * (x * (255 * y)) * z
+      ac = simp (one-mul, mul-assoc, mul-comm, mul-left-comm)
 
-  ratio-halved : near (x * y) (2 * z) ≡ nearest (whole 255 ⊗ (x over 255 ⊗ ratio y z ⊘ whole 2))
-  ratio-halved =
-      near-same (x * y) (2 * z) (255 * (x * (255 * y) * 1)) (1 * (255 * (255 * z) * 2)) (omega arith) (omega arith)
-      (simp (mul-one, one-mul, mul-assoc, mul-comm, mul-left-comm))
+  ratio-halved : Is255Times (x * y) (2 * z) (x over 255 ⊗ ratio y z ⊘ whole 2)
+  ratio-halved = record { same = (omega arith, omega arith, ac) }
+    where
+      ac : x * y * (1 * (255 * (255 * z) * 2)) ≡ 255 * (x * (255 * y) * 1) * (2 * z)
+      ac = simp (mul-one, one-mul, mul-assoc, mul-comm, mul-left-comm)
 
--- a line that counts down from 255
-from-white : {z r : ℕ} → z ≡ r → z ≤ 255 → 255 - z + r ≡ 255
-from-white e h = omega arith
+-- a sample agrees with the paper's: it rounds it, and the paper's lies from 0 to 1
+record Agrees (n : ℕ) (e : Exact) : Type 0 where
+  rounds : Rounds n e
+  inCube : InCube e
+
+module _ {x n d : ℕ} (fits : AtMostWhite x n d) {e : Fraction} (is255 : Is255Times (x * n) d e) where
+  open Is255Times is255 using (same)
+
+  rounds-as : near (x * n) d ≡ nearest (whole 255 ⊗ e)
+  rounds-as = near-same (x * n) d (255 * e .num) (1 * e .den) (same .0) (same .1) (same .2)
+
+  at-most-one : T (e ≼ whole 1)
+  at-most-one =
+      let less = mul-le-mul-right (1 * e .den) (fits .small) in
+      let least : d * e .num ≤ d * e .den =
+      omega (
+        arith,
+        less,
+        same .2,
+        mul-assoc 255 (e .num) d,
+        mul-comm (e .num) d,
+        mul-assoc 255 d (1 * e .den),
+        ap (λ (m : ℕ). d * m) (one-mul (e .den)),
+      ) in
+      le→leb (e .num * 1) (1 * e .den) (omega (arith, le-of-mul-le-mul-left least (fits .positive)))
+
+  directly : Agrees (near (x * n) d) (is e)
+  directly = record { rounds = rounds-as; inCube = at-most-one }
+
+  from-white : Agrees (255 - near (x * n) d) (oneMinus e)
+  from-white = record { rounds = omega (arith, rounds-as, at-most-255 fits); inCube = at-most-one }
 
 -- the lines of document 01, by the paper's cases
-module _ {s f c : ℕ} (h : Between s f c) where
+module _ {s f c : ℕ} (h : MovingSample s f c) where
   abbrev l̂ : Fraction
   l̂ = s over 255
 
@@ -65,27 +100,25 @@ module _ {s f c : ℕ} (h : Between s f c) where
   abbrev p̂ : Fraction
   p̂ = c over 255
 
-  abbrev rounds : Fraction → ℕ
-  rounds x = nearest (whole 255 ⊗ x)
+  same-i : Is255Times (c * f) s (f̂ ⊘ l̂ ⊗ p̂)
+  same-i = subst⁻¹ (λ (x : Fraction). Is255Times (c * f) s (x ⊗ p̂)) (ratio-is f s) (ratio-first c f s (h .notBlack))
 
-  round-i : near (c * f) s ≡ rounds (f̂ ⊘ l̂ ⊗ p̂)
-  round-i = ratio-first c f s (h .notBlack) ∙ ap (λ (x : Fraction). rounds (x ⊗ p̂)) (sym (ratio-is f s))
+  same-ii : Is255Times ((255 - c) * (765 - f)) (765 - s) ((whole 3 ⊖ f̂) ⊘ (whole 3 ⊖ l̂) ⊗ (whole 1 ⊖ p̂))
+  same-ii =
+      subst⁻¹ (Is255Times ((255 - c) * (765 - f)) (765 - s))
+      (ap₂ _⊗_ (ap₂ _⊘_ (three-minus f) (three-minus s) ∙ ratio-is (765 - f) (765 - s)) (one-minus c))
+      (ratio-first (255 - c) (765 - f) (765 - s) (omega arith))
 
-  round-ii : near ((255 - c) * (765 - f)) (765 - s) ≡ rounds ((whole 3 ⊖ f̂) ⊘ (whole 3 ⊖ l̂) ⊗ (whole 1 ⊖ p̂))
-  round-ii =
-      ratio-first (255 - c) (765 - f) (765 - s) (omega arith)
-      ∙ sym (ap₂ (λ (x y : Fraction). rounds (x ⊗ y)) (ap₂ _⊘_ (three-minus f) (three-minus s) ∙ ratio-is (765 - f) (765 - s)) (one-minus c))
+  same-I-i : Is255Times (c * f) s (f̂ ⊗ (p̂ ⊘ l̂))
+  same-I-i =
+      subst₂ (λ (n : ℕ) (x : Fraction). Is255Times n s (f̂ ⊗ x)) (mul-comm f c) (sym (ratio-is c s))
+      (ratio-last f c s (h .notBlack))
 
-  round-I-i : near (c * f) s ≡ rounds (f̂ ⊗ (p̂ ⊘ l̂))
-  round-I-i =
-      ap (λ (n : ℕ). near n s) (mul-comm c f)
-      ∙ ratio-last f c s (h .notBlack)
-      ∙ ap (λ (x : Fraction). rounds (f̂ ⊗ x)) (sym (ratio-is c s))
-
-  round-I-ii : near ((765 - f) * (s - c)) (2 * s) ≡ rounds ((whole 3 ⊖ f̂) ⊗ (whole 1 ⊖ p̂ ⊘ l̂) ⊘ whole 2)
-  round-I-ii =
-      ratio-halved (765 - f) (s - c) s (h .notBlack)
-      ∙ sym (ap₂ (λ (x y : Fraction). rounds (x ⊗ y ⊘ whole 2)) (three-minus f) (ap (λ (x : Fraction). whole 1 ⊖ x) (ratio-is c s) ∙ one-minus-ratio c s))
+  same-I-ii : Is255Times ((765 - f) * (s - c)) (2 * s) ((whole 3 ⊖ f̂) ⊗ (whole 1 ⊖ p̂ ⊘ l̂) ⊘ whole 2)
+  same-I-ii =
+      subst⁻¹ (λ (x : Fraction). Is255Times ((765 - f) * (s - c)) (2 * s) (x ⊘ whole 2))
+      (ap₂ _⊗_ (three-minus f) (ap (λ (x : Fraction). whole 1 ⊖ x) (ratio-is c s) ∙ one-minus-ratio c s))
+      (ratio-halved (765 - f) (s - c) s (h .notBlack))
 
   -- q̃ and p̃ of case (III)
   q̃-is : (whole 1 ⊖ p̂) ⊘ (whole 3 ⊖ l̂) ≡ ratio (255 - c) (765 - s)
@@ -94,91 +127,93 @@ module _ {s f c : ℕ} (h : Between s f c) where
   p̃-is : whole 1 ⊖ (whole 1 ⊖ p̂) ⊘ (whole 3 ⊖ l̂) ≡ ratio (765 - s - (255 - c)) (765 - s)
   p̃-is = ap (λ (x : Fraction). whole 1 ⊖ x) q̃-is ∙ one-minus-ratio (255 - c) (765 - s)
 
-  round-III-i : near (f * (765 - s - (255 - c))) (2 * (765 - s))
-      ≡ rounds (f̂ ⊗ (whole 1 ⊖ (whole 1 ⊖ p̂) ⊘ (whole 3 ⊖ l̂)) ⊘ whole 2)
-  round-III-i =
-      ratio-halved f (765 - s - (255 - c)) (765 - s) (omega arith)
-      ∙ ap (λ (x : Fraction). rounds (f̂ ⊗ x ⊘ whole 2)) (sym p̃-is)
+  same-III-i : Is255Times (f * (765 - s - (255 - c))) (2 * (765 - s))
+      (f̂ ⊗ (whole 1 ⊖ (whole 1 ⊖ p̂) ⊘ (whole 3 ⊖ l̂)) ⊘ whole 2)
+  same-III-i =
+      subst⁻¹ (λ (x : Fraction). Is255Times (f * (765 - s - (255 - c))) (2 * (765 - s)) (f̂ ⊗ x ⊘ whole 2)) p̃-is
+      (ratio-halved f (765 - s - (255 - c)) (765 - s) (omega arith))
 
-  round-III-ii : near ((765 - f) * (255 - c)) (765 - s)
-      ≡ rounds ((whole 3 ⊖ f̂) ⊗ (whole 1 ⊖ (whole 1 ⊖ (whole 1 ⊖ p̂) ⊘ (whole 3 ⊖ l̂))))
-  round-III-ii =
+  same-III-ii : Is255Times ((765 - f) * (255 - c)) (765 - s)
+      ((whole 3 ⊖ f̂) ⊗ (whole 1 ⊖ (whole 1 ⊖ (whole 1 ⊖ p̂) ⊘ (whole 3 ⊖ l̂))))
+  same-III-ii =
       let twice : 765 - s - (765 - s - (255 - c)) ≡ 255 - c = omega arith in
-      ratio-last (765 - f) (255 - c) (765 - s) (omega arith)
-      ∙ sym
-      (ap₂ (λ (x y : Fraction). rounds (x ⊗ y)) (three-minus f)
+      subst⁻¹ (Is255Times ((765 - f) * (255 - c)) (765 - s))
+      (ap₂ _⊗_ (three-minus f)
       (ap (λ (x : Fraction). whole 1 ⊖ x) p̃-is
       ∙ one-minus-ratio (765 - s - (255 - c)) (765 - s)
       ∙ ap (λ (n : ℕ). ratio n (765 - s)) twice))
+      (ratio-last (765 - f) (255 - c) (765 - s) (omega arith))
 
-  rounds₁ : Rounds (naikMurthy s f c) (paper₁ l̂ f̂ p̂)
-  unfolding naikMurthy paper₁
-  rounds₁ =
+  agrees₁ : Agrees (naikMurthy s f c) (paper₁ l̂ f̂ p̂)
+  unfolding paper₁
+  agrees₁ =
       either f s
-      (λ l. simp (le-leb f s l, le-leb (f * 255 * 1) (1 * (255 * s)) (omega arith)) round-i)
       (λ l.
-      simp (lt-leb f s l, lt-leb (f * 255 * 1) (1 * (255 * s)) (omega arith))
-      (from-white round-ii (at-most-255 (case-ii h l))))
+      simp (naikMurthy-i s f c l, le-leb (f * 255 * 1) (1 * (255 * s)) (omega arith)) (directly (case-i h l) same-i))
+      (λ l.
+      simp (naikMurthy-ii s f c l, lt-leb (f * 255 * 1) (1 * (255 * s)) (omega arith)) (from-white (case-ii h l) same-ii))
 
-  roundsI : s ≤ 255 → Rounds (yangLee s f c) (paperI l̂ f̂ p̂)
-  unfolding yangLee paperI
-  roundsI m =
+  agreesI : s ≤ 255 → Agrees (yangLee s f c) (paperI l̂ f̂ p̂)
+  unfolding paperI
+  agreesI m =
       either f 255
-      (λ l. simp (le-leb s 255 m, le-leb f 255 l, le-leb (f * 1) 255 (omega arith)) round-I-i)
-      (λ l.
-      simp (le-leb s 255 m, lt-leb f 255 l, lt-leb (f * 1) 255 (omega arith))
-      (from-white round-I-ii (at-most-255 (case-I-ii h m l))))
+      (λ l. simp (yangLee-I-i s f c m l, le-leb (f * 1) 255 (omega arith)) (directly (case-I-i h m l) same-I-i))
+      (λ l. simp (yangLee-I-ii s f c m l, lt-leb (f * 1) 255 (omega arith)) (from-white (case-I-ii h m l) same-I-ii))
 
-  roundsII : 255 < s → s ≤ 510 → Rounds (yangLee s f c) (paper₁ l̂ f̂ p̂)
-  unfolding yangLee
-  roundsII m n = simp (lt-leb s 255 m, le-leb s 510 n) rounds₁
+  agreesII : 255 < s → s ≤ 510 → Agrees (yangLee s f c) (paper₁ l̂ f̂ p̂)
+  agreesII m n = simp (yangLee-II s f c m n) agrees₁
 
-  roundsIII : 510 < s → Rounds (yangLee s f c) (paperIII l̂ f̂ p̂)
-  unfolding yangLee paperIII
-  roundsIII m =
-      let m' = lt-leb s 255 (omega arith) in
+  agreesIII : 510 < s → Agrees (yangLee s f c) (paperIII l̂ f̂ p̂)
+  unfolding paperIII
+  agreesIII m =
       either f 510
-      (λ l. simp (m', lt-leb s 510 m, le-leb f 510 l, le-leb (f * 1) 510 (omega arith)) round-III-i)
+      (λ l. simp (yangLee-III-i s f c m l, le-leb (f * 1) 510 (omega arith)) (directly (case-III-i h m l) same-III-i))
       (λ l.
-      simp (m', lt-leb s 510 m, lt-leb f 510 l, lt-leb (f * 1) 510 (omega arith))
-      (from-white round-III-ii (at-most-255 (case-III-ii h m l))))
+      simp (yangLee-III-ii s f c m l, lt-leb (f * 1) 510 (omega arith)) (from-white (case-III-ii h m l) same-III-ii))
 
-  rounds₂ : Rounds (yangLee s f c) (paper₂ l̂ f̂ p̂)
+  agrees₂ : Agrees (yangLee s f c) (paper₂ l̂ f̂ p̂)
   unfolding paper₂
-  rounds₂ =
+  agrees₂ =
       either s 255
-      (λ m. simp (le-leb (s * 1) 255 (omega arith)) (roundsI m))
+      (λ m. simp (le-leb (s * 1) 255 (omega arith)) (agreesI m))
       (λ m.
       either s 510
-      (λ n. simp (lt-leb (s * 1) 255 (omega arith), le-leb (s * 1) 510 (omega arith)) (roundsII m n))
-      (λ n. simp (lt-leb (s * 1) 255 (omega arith), lt-leb (s * 1) 510 (omega arith)) (roundsIII n)))
+      (λ n. simp (lt-leb (s * 1) 255 (omega arith), le-leb (s * 1) 510 (omega arith)) (agreesII m n))
+      (λ n. simp (lt-leb (s * 1) 255 (omega arith), lt-leb (s * 1) 510 (omega arith)) (agreesIII n)))
 
-  rounds-by : (m : Method) → Rounds (byMethod m s f c) (paperBy m l̂ f̂ p̂)
-  rounds-by NaikMurthy = rounds₁
-  rounds-by YangLee = rounds₂
+  agrees-by : (m : Method) → Agrees (byMethod m s f c) (paperBy m l̂ f̂ p̂)
+  agrees-by NaikMurthy = agrees₁
+  agrees-by YangLee = agrees₂
 
-sample-rounds : (m : Method) (s f c : ℕ) → Inside s f c → Rounds (movedSample m s f c) (paper m (s over 255) (f over 255) (c over 255))
+-- black and white too, by the paper's convention
+sample-agrees : (m : Method) (s f c : ℕ) → PixelSample s f c → Agrees (movedSample m s f c) (paper m (s over 255) (f over 255) (c over 255))
 unfolding movedSample paper near
-sample-rounds m s f c h =
+sample-agrees m s f c h =
     either s 0
-    (λ l. simp (eq-eqb s 0 (omega arith), le-leb (s * 1) 0 (omega arith)))
+    (λ l. simp (eq-eqb s 0 (omega arith), le-leb (s * 1) 0 (omega arith)) (record { rounds = refl; inCube = tt }))
     (λ light.
     let light' = ne-eqb s 0 (λ z. omega arith) in
     let light'' = lt-leb (s * 1) 0 (omega arith) in
     either 765 s
-    (λ l. simp (light', light'', eq-eqb s 765 (omega arith), le-leb 765 (s * 1) (omega arith)))
+    (λ l.
+    simp (light', light'', eq-eqb s 765 (omega arith), le-leb 765 (s * 1) (omega arith))
+    (record { rounds = refl; inCube = tt }))
     (λ dark.
     simp (light', light'', ne-eqb s 765 (λ z. omega arith), lt-leb 765 (s * 1) (omega arith))
-    (rounds-by (record { inside = h; notBlack = light; notWhite = dark }) m)))
+    (agrees-by (record { inside = h; notBlack = light; notWhite = dark }) m)))
 
-pub moves-are-the-papers : MovesAreThePapers
+pub moves-round-the-paper : MovesRoundThePaper
 unfolding moved
-moves-are-the-papers m p f a bytes le =
+moves-round-the-paper m p f a bytes le =
     rw (sample-each (movedSample m (intensity p) f) p a)
-    (sample-rounds m (intensity p) f (sample p a) (inside p f bytes le a))
+    (sample-agrees m (intensity p) f (sample p a) (inside p f bytes le a) .rounds)
 
-exactly : {s f c : ℕ} → Between s f c → Exactly (s over 255) (f over 255) (c over 255)
-exactly {s} {f} {c} h =
+pub paper-stays-in-the-cube : PaperStaysInTheCube
+paper-stays-in-the-cube m p f a bytes le =
+    sample-agrees m (intensity p) f (sample p a) (inside p f bytes le a) .inCube
+
+nothing-cut-off : {s f c : ℕ} → MovingSample s f c → NothingCutOff (s over 255) (f over 255) (c over 255)
+nothing-cut-off {s} {f} {c} h =
     record {
       notBlack = h .notBlack;
       notWhite = omega arith;
@@ -187,8 +222,10 @@ exactly {s} {f} {c} h =
       sampleFits = le→leb (c * 1) 255 (omega arith);
       caseI = le→leb (c * 255 * 1) (1 * (255 * s)) (omega arith);
       caseIII = le→leb ((255 - c * 1) * 255 * 1) (1 * (255 * (765 - s * 1))) (omega arith);
+      caseIII-ii =
+          le→leb ((1 * (255 * (765 - s * 1)) - (255 - c * 1) * 255 * 1) * 1) (1 * (1 * (255 * (765 - s * 1)))) (omega arith);
     }
 
-pub papers-are-exact : PapersAreExact
-papers-are-exact p f a bytes le light dark =
-    exactly (record { inside = inside p f bytes le a; notBlack = light; notWhite = dark })
+pub formulas-are-exact : FormulasAreExact
+formulas-are-exact p f a bytes le light dark =
+    nothing-cut-off (record { inside = inside p f bytes le a; notBlack = light; notWhite = dark })

@@ -1,4 +1,4 @@
--- What the inner functions of this crate may take for granted; their callers show it. No outside call rests on these.
+-- What the inner functions of this crate require; their callers show it. No outside call's contract cites these.
 use Prim.Native.Nat.{ℕ, _+_, _*_, _<_, _≤_}
 
 -- x × n / d is at most 255, over one of document 01's divisors.
@@ -8,7 +8,7 @@ pub record AtMostWhite (x n d : ℕ) : Type 0 where
   pub small : x * n ≤ 255 * d
 
 -- c is a sample of a pixel of intensity s, and f a target.
-pub record Inside (s f c : ℕ) : Type 0 where
+pub record PixelSample (s f c : ℕ) : Type 0 where
   pub target : f ≤ 765
   pub byte : c ≤ 255
   -- the other two samples are at least 0 and at most 255
@@ -16,7 +16,7 @@ pub record Inside (s f c : ℕ) : Type 0 where
   pub rest : s ≤ c + 510
 
 -- The same, and the pixel is neither black nor white.
-pub record Between (s f c : ℕ) : Type 0 where
-  pub inside : Inside s f c
+pub record MovingSample (s f c : ℕ) : Type 0 where
+  pub inside : PixelSample s f c
   pub notBlack : 0 < s
   pub notWhite : s < 765

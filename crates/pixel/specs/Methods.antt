@@ -15,7 +15,7 @@ methodNumber YangLee = 2
 abbrev pub isMethod : ℕ → Bool
 isMethod n = eqb n (methodNumber NaikMurthy) || eqb n (methodNumber YangLee)
 
--- The method of a number that is one of these (of another number nobody asks it).
+-- The method of a number that is one of these (`method_of` requires that it is).
 abbrev pub methodOf : ℕ → Method
 methodOf n = cond (eqb n (methodNumber NaikMurthy)) NaikMurthy YangLee
 

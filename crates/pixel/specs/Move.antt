@@ -63,7 +63,7 @@ unfoldable pub movedSample : Method → ℕ → ℕ → ℕ → ℕ
 movedSample m s f c = cond (eqb s 0) 0 (cond (eqb s 765) 255 (byMethod m s f c))
 
 abbrev pub eachSample : (ℕ → ℕ) → Pixel → Pixel
-eachSample g p = record { r = g (p .r); g = g (p .g); b = g (p .b) }
+eachSample to p = record { r = to (p .r); g = to (p .g); b = to (p .b) }
 
 -- The pixel p, moved to the target f.
 unfoldable pub moved : Method → Pixel → ℕ → Pixel

@@ -55,14 +55,25 @@ Rounds n (is x) = n ≡ nearest (whole 255 ⊗ x)
 Rounds n (oneMinus x) = n + nearest (whole 255 ⊗ x) ≡ 255
 
 -- Claim: each sample of a moved pixel is the paper's, at l = s/255, f(l) = f/255 and p = c/255, rounded once.
--- Proved: proofs/Paper.antt, `moves-are-the-papers`.
-abbrev pub MovesAreThePapers : Type 0
-MovesAreThePapers =
+-- Proved: proofs/Paper.antt, `moves-round-the-paper`.
+abbrev pub MovesRoundThePaper : Type 0
+MovesRoundThePaper =
     (m : Method) (p : Pixel) (f : ℕ) (a : Channel) → InRange p → f ≤ 765
     → Rounds (sample (moved m p f) a) (paper m (intensity p over 255) (f over 255) (sample p a over 255))
 
--- No divisor of the formulas above is 0, and none of their subtractions is cut off at 0.
-pub record Exactly (l f p : Fraction) : Type 0 where
+-- The exact sample lies from 0 to 1: no channel leaves the cube, and 1 − x is not cut off at 0.
+abbrev pub InCube : Exact → Type 0
+InCube (is x) = T (x ≼ whole 1)
+InCube (oneMinus x) = T (x ≼ whole 1)
+
+-- Claim: so it is for every pixel and target. Proved: proofs/Paper.antt, `paper-stays-in-the-cube`.
+abbrev pub PaperStaysInTheCube : Type 0
+PaperStaysInTheCube =
+    (m : Method) (p : Pixel) (f : ℕ) (a : Channel) → InRange p → f ≤ 765
+    → InCube (paper m (intensity p over 255) (f over 255) (sample p a over 255))
+
+-- No divisor of the formulas above is 0, and none of their other subtractions is cut off at 0.
+pub record NothingCutOff (l f p : Fraction) : Type 0 where
   -- the divisors l and 3 − l
   pub notBlack : 0 < l .num
   pub notWhite : 0 < (whole 3 ⊖ l) .num
@@ -70,12 +81,13 @@ pub record Exactly (l f p : Fraction) : Type 0 where
   pub intensityFits : T (l ≼ whole 3)
   pub targetFits : T (f ≼ whole 3)
   pub sampleFits : T (p ≼ whole 1)
-  -- 1 − p̃ in case (I), and 1 − q̃ in case (III)
+  -- 1 − p̃ in case (I); 1 − q̃ in case (III), and from that p̃ follows 1 − p̃
   pub caseI : T (p ⊘ l ≼ whole 1)
   pub caseIII : T ((whole 1 ⊖ p) ⊘ (whole 3 ⊖ l) ≼ whole 1)
+  pub caseIII-ii : T (whole 1 ⊖ (whole 1 ⊖ p) ⊘ (whole 3 ⊖ l) ≼ whole 1)
 
--- Claim: so it is for every pixel that is neither black nor white. Proved: proofs/Paper.antt, `papers-are-exact`.
-abbrev pub PapersAreExact : Type 0
-PapersAreExact =
+-- Claim: so it is for every pixel that is neither black nor white. Proved: proofs/Paper.antt, `formulas-are-exact`.
+abbrev pub FormulasAreExact : Type 0
+FormulasAreExact =
     (p : Pixel) (f : ℕ) (a : Channel) → InRange p → f ≤ 765 → 0 < intensity p → intensity p < 765
-    → Exactly (intensity p over 255) (f over 255) (sample p a over 255)
+    → NothingCutOff (intensity p over 255) (f over 255) (sample p a over 255)

@@ -1,11 +1,12 @@
 // Moving a pixel to a target intensity (document 01, "Moving a pixel").
 ghost use mathlib.Core.Path.{_≡_};
+ghost use mathlib.Core.Bool.{true};
 ghost use Prim.Native.Nat.{_+_, _-_, _*_, _<_, _≤_};
 ghost use Rattle.rounding.specs.Near.{near};
 ghost use Rattle.pixel.specs.Methods.{isMethod, methodOf};
 ghost use Rattle.pixel.specs.Move.{naikMurthy, yangLee, byMethod, movedSample, moved};
 ghost use Rattle.pixel.specs.MoveOne.{moveNumber, refusedMove, movedOne};
-ghost use Rattle.pixel.specs.Inner.{AtMostWhite, Inside, Between};
+ghost use Rattle.pixel.specs.Inner.{AtMostWhite, PixelSample, MovingSample};
 
 // The two methods of source 004: 2.1 and 2.2.
 pub enum Method {
@@ -60,7 +61,7 @@ fn scaled_from_white(x: u64, n: u64, d: u64) -> u8
 
 // Method 1: the sample c of a pixel of intensity s, moved to the target f.
 fn naik_murthy(s: u64, f: u64, c: u64) -> u8
-    requires { ⌜ Between s f c ⌝ }
+    requires { ⌜ MovingSample s f c ⌝ }
     ensures { λ r. ⌜ r ≡ naikMurthy s f c ⌝ }
 {
     if f <= s {
@@ -71,7 +72,7 @@ fn naik_murthy(s: u64, f: u64, c: u64) -> u8
 
 // Method 2 for a dark pixel, s at most 255.
 fn yang_lee_dark(s: u64, f: u64, c: u64) -> u8
-    requires { ⌜ Between s f c × (s ≤ 255) ⌝ }
+    requires { ⌜ MovingSample s f c × (s ≤ 255) ⌝ }
     ensures { λ r. ⌜ r ≡ yangLee s f c ⌝ }
 {
     if f <= 255 {
@@ -82,7 +83,7 @@ fn yang_lee_dark(s: u64, f: u64, c: u64) -> u8
 
 // Method 2 for a bright pixel, s above 510.
 fn yang_lee_bright(s: u64, f: u64, c: u64) -> u8
-    requires { ⌜ Between s f c × (510 < s) ⌝ }
+    requires { ⌜ MovingSample s f c × (510 < s) ⌝ }
     ensures { λ r. ⌜ r ≡ yangLee s f c ⌝ }
 {
     let d = 255 - c;
@@ -95,7 +96,7 @@ fn yang_lee_bright(s: u64, f: u64, c: u64) -> u8
 
 // Method 2: the pixel's own intensity decides the case, and not the target.
 fn yang_lee(s: u64, f: u64, c: u64) -> u8
-    requires { ⌜ Between s f c ⌝ }
+    requires { ⌜ MovingSample s f c ⌝ }
     ensures { λ r. ⌜ r ≡ yangLee s f c ⌝ }
 {
     if s <= 255 {
@@ -109,7 +110,7 @@ fn yang_lee(s: u64, f: u64, c: u64) -> u8
 
 // A sample of a pixel that is neither black nor white.
 fn by_method(method: Method, s: u64, f: u64, c: u64) -> u8
-    requires { ⌜ Between s f c ⌝ }
+    requires { ⌜ MovingSample s f c ⌝ }
     ensures { λ r. ⌜ r ≡ byMethod method s f c ⌝ }
 {
     match method {
@@ -120,7 +121,7 @@ fn by_method(method: Method, s: u64, f: u64, c: u64) -> u8
 
 // One sample of a moved pixel. Black and white stay, and neither method divides by zero.
 fn moved_sample(method: Method, s: u64, f: u64, c: u64) -> u8
-    requires { ⌜ Inside s f c ⌝ }
+    requires { ⌜ PixelSample s f c ⌝ }
     ensures { λ r. ⌜ r ≡ movedSample method s f c ⌝ }
 {
     if s == 0 {
@@ -158,6 +159,7 @@ pub fn is_method(number: u32) -> bool
 
 // The method that a number names.
 pub fn method_of(number: u32) -> Method
+    requires { ⌜ isMethod number ≡ true ⌝ }
     ensures { λ r. ⌜ r ≡ methodOf number ⌝ }
 {
     if number == 1 {
@@ -170,7 +172,8 @@ pub fn method_of(number: u32) -> Method
 fn move_number(method: u32, target: u32) -> u32
     ensures { λ r. ⌜ r ≡ moveNumber method target ⌝ }
 {
-    if !is_method(method) {
+    let known = is_method(method);
+    if !known {
         return 7;
     }
     if 765 < target {

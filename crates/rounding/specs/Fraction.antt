@@ -37,7 +37,7 @@ x ⊗ y = (x .num * y .num) over (x .den * y .den)
 abbrev pub _⊘_ : Fraction → Fraction → Fraction
 x ⊘ y = (x .num * y .den) over (x .den * y .num)
 
--- x is at most y
+-- x is at most y, where both denominators are positive
 abbrev pub _≼_ : Fraction → Fraction → Bool
 x ≼ y = leb (x .num * y .den) (y .num * x .den)
 

@@ -1,4 +1,4 @@
-// The cube's targets: G(k), the share of the RGB cube whose intensity is at most k, as whole numbers.
+// The cube's targets: G(k) is 6 × 255³ times the share of the RGB cube whose intensity is at most k / 255.
 ghost use mathlib.Core.Path.{_≡_};
 ghost use Prim.Native.Nat.{_≤_};
 ghost use Rattle.targets.specs.Cube.{G};

@@ -1,6 +1,7 @@
 -- `pixel::move_number` meets its contract: each return is the first check that applies.
 use mathlib.Core.Path.{_≡_, ap, sym, _∙_}
 use mathlib.Core.Bool.{true, false, not}
+use native.Mathlib.Omega.{arith}
 use borrow.Author.Needs.{needs}
 use borrow.Author.Tests.{lt-ltb, le-ltb}
 use Rattle.pixel.specs.Methods.{isMethod}
@@ -20,10 +21,10 @@ returns : tie.Need-returns
 returns c = simp (no-method c)
 
 returns-2 : tie.Need-returns-2
-returns-2 c = simp (a-method (c .before), lt-ltb _ _ (c .if2 .taken))
+returns-2 c = simp (a-method (c .before), lt-ltb 765 (c .before .before .before .args .target) (omega arith))
 
 returns-3 : tie.Need-returns-3
-returns-3 c = simp (a-method (c .before), le-ltb _ _ (c .if2 .left))
+returns-3 c = simp (a-method (c .before), le-ltb 765 (c .before .before .before .args .target) (omega arith))
 
 pub move-number-spec : {M : Type 1} → statement M
 move-number-spec = tie.close (tie.spec is-method-requires returns returns-2 returns-3)

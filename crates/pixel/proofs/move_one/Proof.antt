@@ -1,10 +1,10 @@
 -- `pixel::move_one` meets its contract, for every input.
 use mathlib.Core.Path.{_≡_, ap, sym, _∙_}
-use mathlib.Core.Bool.{not}
+use mathlib.Core.Bool.{true, not}
 use Prim.Native.Nat.{ℕ, _≤_}
 use native.Mathlib.Omega.{arith}
 use borrow.Author.Needs.{needs}
-use borrow.Author.Tests.{eq-eqb, ne-eqb, ltb-false}
+use borrow.Author.Tests.{eq-eqb, ne-eqb, ltb-false, not-false}
 use Rattle.refusal.proofs.Laws.{passed}
 use Rattle.pixel.specs.Methods.{isMethod, methodOf}
 use Rattle.pixel.specs.MoveOne.{moveNumber, movedOne, refusedMove, acceptedMove}
@@ -14,7 +14,10 @@ use Rattle.pixel.specs.declared.Method.{Method}
 use Rattle.pixel.proofs.move_one.Statement.{statement}
 use Rattle.pixel.proofs.move_one.Tie as tie
 
--- an accepted move's target is at most 765
+-- an accepted move's method is known, and its target is at most 765
+method-known : (method target : ℕ) → moveNumber method target ≡ 0 → isMethod method ≡ true
+method-known method target e = not-false (isMethod method) (passed (not (isMethod method)) 7 _ (omega arith) e .0)
+
 target-fits : (method target : ℕ) → moveNumber method target ≡ 0 → target ≤ 765
 target-fits method target e =
     let rest = passed (not (isMethod method)) 7 _ (omega arith) e .1 in
@@ -43,7 +46,7 @@ returns : tie.Need-returns
 returns c = c .refused-move .ensures ∙ refused-one _ _ _ _ (c .before .before .move-number .ensures) (c .before .if1 .taken)
 
 method-of-requires : tie.Need-method-of-requires
-method-of-requires c κs = search needs
+method-of-requires c κs = let a = c .before .before .args in method-known (a .method) (a .target) (accepted c)
 
 move-pixel-requires : tie.Need-move-pixel-requires
 move-pixel-requires c κs = let a = c .before .before .before .args in target-fits (a .method) (a .target) (accepted (c .before))

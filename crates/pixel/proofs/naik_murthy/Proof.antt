@@ -1,17 +1,16 @@
 -- `pixel::naik_murthy` meets its contract: cases (i) and (ii) of the paper.
+use mathlib.Core.Path.{sym, _∙_}
+use native.Mathlib.Omega.{arith}
 use borrow.Author.Needs.{needs}
-use borrow.Author.Tests.{le-leb, lt-leb}
-use Rattle.pixel.specs.Move.{naikMurthy}
-use Rattle.pixel.proofs.Cases.{case-i, case-ii}
+use Rattle.pixel.proofs.Cases.{case-i, case-ii, naikMurthy-i, naikMurthy-ii}
 use Rattle.pixel.proofs.naik_murthy.Statement.{statement}
 use Rattle.pixel.proofs.naik_murthy.Tie as tie
 
 scaled-requires : tie.Need-scaled-requires
-scaled-requires c κs = case-i (c .before .pre) (c .if1 .taken)
+scaled-requires c κs = case-i (c .before .pre) (omega arith)
 
 returns : tie.Need-returns
-unfolding naikMurthy
-returns c = simp (le-leb _ _ (c .before .if1 .taken)) (c .scaled .ensures)
+returns c = let a = c .before .before .args in c .scaled .ensures ∙ sym (naikMurthy-i (a .s) (a .f) (a .c) (omega arith))
 
 sub-scaled-from-white : tie.Need-sub-scaled-from-white
 sub-scaled-from-white c = search needs
@@ -23,11 +22,12 @@ sub-scaled-from-white-3 : tie.Need-sub-scaled-from-white-3
 sub-scaled-from-white-3 c = search needs
 
 scaled-from-white-requires : tie.Need-scaled-from-white-requires
-scaled-from-white-requires c κs = case-ii (c .before .pre) (c .if1 .left)
+scaled-from-white-requires c κs = case-ii (c .before .pre) (omega arith)
 
 returns-2 : tie.Need-returns-2
-unfolding naikMurthy
-returns-2 c = simp (lt-leb _ _ (c .before .if1 .left)) (c .scaled-from-white .ensures)
+returns-2 c =
+    let a = c .before .before .args in
+    c .scaled-from-white .ensures ∙ sym (naikMurthy-ii (a .s) (a .f) (a .c) (omega arith))
 
 pub naik-murthy-spec : {M : Type 1} → statement M
 naik-murthy-spec =

@@ -1,7 +1,8 @@
 -- `pixel::yang_lee` meets its contract: cases (I), (II) and (III) of the paper.
+use mathlib.Core.Path.{sym, _∙_}
+use native.Mathlib.Omega.{arith}
 use borrow.Author.Needs.{needs}
-use borrow.Author.Tests.{le-leb, lt-leb}
-use Rattle.pixel.specs.Move.{yangLee}
+use Rattle.pixel.proofs.Cases.{yangLee-II}
 use Rattle.pixel.proofs.yang_lee.Statement.{statement}
 use Rattle.pixel.proofs.yang_lee.Tie as tie
 
@@ -15,9 +16,9 @@ naik-murthy-requires : tie.Need-naik-murthy-requires
 naik-murthy-requires c κs = search needs
 
 returns-2 : tie.Need-returns-2
-unfolding yangLee
 returns-2 c =
-    simp (lt-leb _ _ (c .before .before .if1 .left), le-leb _ _ (c .before .if2 .taken)) (c .naik-murthy .ensures)
+    let a = c .before .before .before .args in
+    c .naik-murthy .ensures ∙ sym (yangLee-II (a .s) (a .f) (a .c) (omega arith) (omega arith))
 
 yang-lee-bright-requires : tie.Need-yang-lee-bright-requires
 yang-lee-bright-requires c κs = search needs

@@ -22,13 +22,13 @@ returns : tie.Need-returns
 returns c =
     let n = c .before .args .n in
     let d = c .before .args .d in
-    near-up _ _ d n (div-add-mod' n d) (mod-lt n (c .before .pre .0)) (c .if1 .taken)
+    near-up _ _ d n (div-add-mod' n d) (mod-lt n (c .before .pre .0)) (omega arith)
 
 returns-2 : tie.Need-returns-2
 returns-2 c =
     let n = c .before .args .n in
     let d = c .before .args .d in
-    near-down _ _ d n (div-add-mod' n d) (c .if1 .left)
+    near-down _ _ d n (div-add-mod' n d) (omega arith)
 
 pub rounded-spec : {M : Type 1} → statement M
 rounded-spec = tie.close (tie.spec div-quotient rem-remainder mul-if1 add-result returns returns-2)

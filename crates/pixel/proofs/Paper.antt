@@ -1,5 +1,5 @@
 -- Document 01's lines round the samples of source 004.
-use mathlib.Core.Path.{_≡_, refl, sym, ap, ap₂, subst⁻¹, subst₂, _∙_}
+use mathlib.Core.Path.{_≡_, refl, sym, ap, ap₂, subst, subst⁻¹, subst₂, _∙_}
 use Prim.Native.Nat.{ℕ, _-_, _*_, _<_, _≤_}
 use native.Mathlib.Nat.{mul-one, one-mul, mul-assoc, mul-comm, mul-left-comm, mul-le-mul-right, le-of-mul-le-mul-left}
 use native.Mathlib.Omega.{arith}
@@ -33,6 +33,9 @@ one-minus k = ap (λ (n : ℕ). (255 - n) over 255) (mul-one k)
 one-minus-ratio : (x z : ℕ) → whole 1 ⊖ ratio x z ≡ ratio (z - x) z
 one-minus-ratio x z = ap₂ _over_ (omega arith) (omega arith)
 
+⊗-comm : (x y : Fraction) → x ⊗ y ≡ y ⊗ x
+⊗-comm x y = ap₂ _over_ (mul-comm (x .num) (y .num)) (mul-comm (x .den) (y .den))
+
 -- document 01's fraction n / d is 255 times the paper's fraction e
 record Is255Times (n d : ℕ) (e : Fraction) : Type 0 where
   same : n over d ≈ whole 255 ⊗ e
@@ -46,10 +49,7 @@ module _ (x y z : ℕ) (positive : 0 < z) where
       ac = simp (one-mul, mul-assoc, mul-comm, mul-left-comm)
 
   ratio-last : Is255Times (x * y) z (x over 255 ⊗ ratio y z)
-  ratio-last = record { same = (positive, omega arith, ac) }
-    where
-      ac : x * y * (1 * (255 * (255 * z))) ≡ 255 * (x * (255 * y)) * z
-      ac = simp (one-mul, mul-assoc, mul-comm, mul-left-comm)
+  ratio-last = subst (Is255Times (x * y) z) (⊗-comm (ratio y z) (x over 255)) ratio-first
 
   ratio-halved : Is255Times (x * y) (2 * z) (x over 255 ⊗ ratio y z ⊘ whole 2)
   ratio-halved = record { same = (omega arith, omega arith, ac) }

@@ -1,12 +1,10 @@
 -- The cases of the two methods, by the paper's numbers for them: which line of document 01 each is, and that its fraction is at
 -- most 255, so that it rounds to a sample.
-use mathlib.Core.Path.{_≡_, refl}
-use mathlib.Core.Bool.{Bool, true, false}
+use mathlib.Core.Path.{_≡_}
 use Prim.Native.Nat.{ℕ, _-_, _*_, _<_, _≤_}
 use native.Mathlib.Nat.{mul-le-mul}
 use native.Mathlib.Omega.{arith}
-use lib.Dec.{leb}
-use borrow.Author.Tests.{leb-true, leb-false, le-leb, lt-leb}
+use borrow.Author.Tests.{le-leb, lt-leb}
 use Rattle.rounding.specs.Near.{near}
 use Rattle.rounding.proofs.Laws.{near-le}
 use Rattle.pixel.specs.Move.{naikMurthy, yangLee}
@@ -85,11 +83,3 @@ module _ {s f c : ℕ} (h : MovingSample s f c) where
         divisor = omega arith;
         small = mul-le-mul {n₁ = 765 - f} {m₁ = 255 - c} {n₂ = 255} {m₂ = 765 - s} (omega arith) (omega arith);
       }
-
--- to show a claim, show it where m is at most n and where it is above n
-pub either : {G : Type 0} (m n : ℕ) → (m ≤ n → G) → (n < m → G) → G
-either {G} m n low high = go (leb m n) (leb-true m n) (leb-false m n)
-  where
-    go : (t : Bool) → (t ≡ true → m ≤ n) → (t ≡ false → n < m) → G
-    go true p q = low (p refl)
-    go false p q = high (q refl)

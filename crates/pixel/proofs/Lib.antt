@@ -3,3 +3,4 @@ pub mod Channels
 pub mod Cases
 pub mod Accurate
 pub mod Paper
+pub mod Strips

@@ -8,13 +8,14 @@ use borrow.Author.Tests.{le-leb, lt-leb, eq-eqb, ne-eqb}
 use Rattle.rounding.specs.Near.{near}
 use Rattle.rounding.specs.Fraction.{Fraction, whole, _over_, _⊖_, _⊗_, _⊘_, _≼_, _≈_, nearest}
 use Rattle.rounding.proofs.Laws.{near-same}
+use Rattle.tables.proofs.Cases.{either}
 use Rattle.pixel.specs.Inner.{AtMostWhite, PixelSample, MovingSample}
 use Rattle.pixel.specs.Move.{sample, intensity, naikMurthy, yangLee, byMethod, movedSample, moved}
 use Rattle.pixel.specs.Paper.{Exact, Exact.is, Exact.oneMinus, paper₁, paper₂, paperI, paperIII, paperBy, paper, Rounds, MovesRoundThePaper, InCube, PaperStaysInTheCube, NothingCutOff, FormulasAreExact}
 use Rattle.pixel.specs.declared.Method.{Method}
 use Rattle.pixel.specs.declared.Method.the-variants.{NaikMurthy, YangLee}
 use Rattle.pixel.proofs.Channels.{sample-each, inside}
-use Rattle.pixel.proofs.Cases.{either, at-most-255, case-i, case-ii, case-I-i, case-I-ii, case-III-i, case-III-ii, naikMurthy-i, naikMurthy-ii, yangLee-I-i, yangLee-I-ii, yangLee-II, yangLee-III-i, yangLee-III-ii}
+use Rattle.pixel.proofs.Cases.{at-most-255, case-i, case-ii, case-I-i, case-I-ii, case-III-i, case-III-ii, naikMurthy-i, naikMurthy-ii, yangLee-I-i, yangLee-I-ii, yangLee-II, yangLee-III-i, yangLee-III-ii}
 
 -- x/255 divided by z/255
 abbrev ratio : ℕ → ℕ → Fraction

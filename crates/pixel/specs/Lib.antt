@@ -1,5 +1,6 @@
 pub mod Methods
 pub mod Move
+pub mod Strip
 pub mod MoveOne
 pub mod Paper
 pub mod Accuracy

@@ -1,0 +1,5 @@
+pub mod Numbers
+pub mod Nearest
+pub mod Curve
+pub mod Histogram
+pub mod Paper

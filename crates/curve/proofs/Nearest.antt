@@ -1,0 +1,228 @@
+-- Laws of the nearest place: there is one and only one, it does not fall where the aim rises, and how a binary search finds it.
+use mathlib.Core.Path.{_≡_}
+use mathlib.Core.Logic.{⊎-elim}
+use mathlib.Core.List.{List}
+use Prim.Native.Nat.{ℕ, zero, suc, _+_, _-_, _≤_, _<_, zero-le}
+use native.Mathlib.Nat.{le-antisymm, le-refl, le-trans, le-of-lt, lt-of-le-of-lt, lt-of-lt-of-le, lt-irrefl, le-of-suc-le-suc, not-suc-le-zero, eq-or-lt-of-le}
+use native.Mathlib.Omega.{arith}
+use borrow.Author.Tests.{lt-ltb, le-ltb}
+use Rattle.tables.specs.Table.{at}
+use Rattle.tables.proofs.Cases.{either}
+use Rattle.curve.specs.Inner.{NonDecreasing, FirstAtLeast}
+use Rattle.curve.specs.Nearest.{distance, Nearest, nearer, nearestPlace, NearestMeans}
+
+-- of two values b ≤ a, an aim that is nearer to a lies above their middle
+above-middle : (a b aim : ℕ) → b ≤ a → distance a aim < distance b aim → (b < a) × (a + b < aim + aim)
+above-middle a b aim h p = omega arith
+
+-- and one that is not lies at most there
+below-middle : (a b aim : ℕ) → b < a → distance b aim ≤ distance a aim → aim + aim ≤ a + b
+below-middle a b aim h p = omega arith
+
+-- so an aim nearer to the greater value and a larger one that is not cannot be
+clash : (a b aim aim' : ℕ) → b ≤ a → aim ≤ aim' → distance a aim < distance b aim → distance b aim' ≤ distance a aim' → ⊥
+clash a b aim aim' h l p q =
+    let (less, above) = above-middle a b aim h p in
+    let below = below-middle a b aim' less q in
+    omega arith
+
+-- g does not fall over the places 0 to n
+abbrev pub Rising : (ℕ → ℕ) → ℕ → Type 0
+Rising g n = (j k : ℕ) → j ≤ k → k ≤ n → g j ≤ g k
+
+-- where g does not fall, a larger aim has no smaller place
+pub nearest-mono : {g : ℕ → ℕ} {n aim aim' k k' : ℕ} → Rising g n → aim ≤ aim' → Nearest g n aim k → Nearest g n aim' k' → k ≤ k'
+nearest-mono {g} {n} {aim} {aim'} {k} {k'} up h a b =
+    either k k' (λ p. p)
+    (λ q.
+    absurd
+    (clash (g k) (g k') aim aim' (up k' k (le-of-lt q) (a .within)) h (a .first k' q) (b .least k (a .within))))
+
+-- of two nearest places neither comes first
+not-before : {g : ℕ → ℕ} {n aim k k' : ℕ} → Nearest g n aim k → Nearest g n aim k' → k ≤ k'
+not-before {g} {n} {aim} {k} {k'} a b =
+    either k k' (λ p. p) (λ q. omega (arith, a .first k' q, b .least k (a .within)))
+
+-- so there is one nearest place
+pub nearest-unique : {g : ℕ → ℕ} {n aim k k' : ℕ} → Nearest g n aim k → Nearest g n aim k' → k ≡ k'
+nearest-unique a b = le-antisymm (not-before a b) (not-before b a)
+
+-- one place more: the nearer of it and of the nearest place so far
+nearer-is : (g : ℕ → ℕ) (n aim k : ℕ) → Nearest g n aim k → Nearest g (suc n) aim (nearer g aim (suc n) k)
+unfolding nearer
+nearer-is g n aim k a = either (distance (g k) aim) (distance (g (suc n)) aim) keep move
+  where
+    keep : distance (g k) aim ≤ distance (g (suc n)) aim → Nearest g (suc n) aim (nearer g aim (suc n) k)
+    keep h =
+        rw (le-ltb (distance (g (suc n)) aim) (distance (g k) aim) h)
+        (record {
+          within = omega (arith, a .within);
+          least = λ j l. ⊎-elim (λ e. rw e h) (λ m. a .least j (le-of-suc-le-suc m)) (eq-or-lt-of-le l);
+          first = a .first;
+        })
+
+    move : distance (g (suc n)) aim < distance (g k) aim → Nearest g (suc n) aim (nearer g aim (suc n) k)
+    move h =
+        rw (lt-ltb (distance (g (suc n)) aim) (distance (g k) aim) h)
+        (record {
+          within = le-refl (suc n);
+          least = λ j l.
+              ⊎-elim (λ e. rw e (le-refl _)) (λ m. le-trans (le-of-lt h) (a .least j (le-of-suc-le-suc m))) (eq-or-lt-of-le l);
+          first = λ j l. lt-of-lt-of-le h (a .least j (le-of-suc-le-suc l));
+        })
+
+-- trying one place after the other finds it
+pub nearest-is : (g : ℕ → ℕ) (n aim : ℕ) → Nearest g n aim (nearestPlace g n aim)
+unfolding nearestPlace
+nearest-is g zero aim =
+    record {
+      within = le-refl 0;
+      least = λ j h. let e : j ≡ 0 = omega arith in rw e (le-refl _);
+      first = λ j h. absurd (not-suc-le-zero h);
+    }
+nearest-is g (suc n) aim = nearer-is g n aim (nearestPlace g n aim) (nearest-is g n aim)
+
+pub nearest-means : NearestMeans
+nearest-means g n aim k = (λ a. nearest-unique a (nearest-is g n aim), λ e. rw e (nearest-is g n aim))
+
+-- it is one of the places
+pub nearest-le : (g : ℕ → ℕ) (n aim : ℕ) → nearestPlace g n aim ≤ n
+nearest-le g n aim = nearest-is g n aim .within
+
+-- sequences that agree at 0 to n have one nearest place
+pub nearest-same : (g g' : ℕ → ℕ) (n aim : ℕ) → ((k : ℕ) → k ≤ n → g k ≡ g' k) → nearestPlace g n aim ≡ nearestPlace g' n aim
+nearest-same g g' n aim same = nearest-unique (carry (nearest-is g n aim)) (nearest-is g' n aim)
+  where
+    carry : {k : ℕ} → Nearest g n aim k → Nearest g' n aim k
+    carry {k} a =
+        record {
+          within = a .within;
+          least = λ j h. rw (← same k (a .within), ← same j h) (a .least j h);
+          first = λ j h. rw (← same k (a .within), ← same j (le-trans (le-of-lt h) (a .within))) (a .first j h);
+        }
+
+-- A binary search for the first place at which g is at least v: all before low is below v, and all from high on is at least v.
+pub record Bracket (g : List ℕ) (v low high : ℕ) : Type 0 where
+  pub ordered : low ≤ high
+  pub within : high ≤ 766
+  pub below : (j : ℕ) → j < low → at g j < v
+  pub above : (j : ℕ) → high ≤ j → j ≤ 765 → v ≤ at g j
+
+module _ {g : List ℕ} {v : ℕ} where
+  -- at the start every place is open
+  pub bracket-start : Bracket g v 0 766
+  bracket-start =
+      record {
+        ordered = zero-le;
+        within = le-refl 766;
+        below = λ j l. absurd (not-suc-le-zero l);
+        above = λ j l l'. omega arith;
+      }
+
+  -- at the end none is
+  pub bracket-end : {low high : ℕ} → Bracket g v low high → high ≤ low → FirstAtLeast g v low
+  bracket-end b h =
+      record {
+        within = le-trans (b .ordered) (b .within);
+        below = b .below;
+        above = λ j l. b .above j (le-trans h l);
+      }
+
+  module _ {low high : ℕ} (up : NonDecreasing g) (b : Bracket g v low high) (middle : ℕ) (l : low ≤ middle) (h : middle < high) where
+    -- the middle place is below v, and so is all before it
+    pub bracket-up : at g middle < v → Bracket g v (middle + 1) high
+    bracket-up less =
+        record {
+          ordered = omega arith;
+          within = b .within;
+          below = λ j i. lt-of-le-of-lt (up j middle (omega arith) (omega (arith, b .within))) less;
+          above = b .above;
+        }
+
+    -- the middle place is at least v, and so is all after it
+    pub bracket-down : v ≤ at g middle → Bracket g v low middle
+    bracket-down least =
+        record {
+          ordered = l;
+          within = le-trans (le-of-lt h) (b .within);
+          below = b .below;
+          above = λ j i i'. le-trans least (up middle j i i');
+        }
+
+-- The four ends of the search for the nearest place: `upper` is the first place at which g is at least the aim.
+module _ (g : List ℕ) (aim upper : ℕ) (up : NonDecreasing g) (l : FirstAtLeast g aim upper) where
+  -- `upper` is the first place of all
+  pub found-start : upper ≡ 0 → 0 ≡ nearestPlace (at g) 765 aim
+  found-start e =
+      nearest-unique (record {
+        within = zero-le;
+        least = λ j h. omega (arith, l .above 0 (omega arith) (omega arith), up 0 j zero-le h);
+        first = λ j h. absurd (not-suc-le-zero h);
+      }) (nearest-is (at g) 765 aim)
+
+  module _ (some : upper ≡ 0 → ⊥) where
+    -- the place before `upper`
+    abbrev lower : ℕ
+    lower = upper - 1
+
+    -- `lower` and `upper` stand side by side
+    next : upper ≡ lower + 1
+    next = omega arith
+
+    -- `lower` holds less than the aim
+    pub lower-below : at g lower < aim
+    lower-below = l .below lower (omega (arith, next))
+
+    -- no place before `upper` holds more than `lower`
+    before-upper : (j : ℕ) → j < upper → at g j ≤ at g lower
+    before-upper j h = up j lower (omega (arith, next)) (omega (arith, next, l .within))
+
+    -- k: the first place that holds as much as `lower`
+    module _ (k : ℕ) (first : FirstAtLeast g (at g lower) k) where
+      -- it is not after `lower`
+      first-le : k ≤ lower
+      first-le = either k lower (λ q. q) (λ q. absurd (lt-irrefl (at g lower) (first .below lower q)))
+
+      -- and holds the same
+      first-same : at g k ≡ at g lower
+      first-same =
+          le-antisymm (before-upper k (omega (arith, next, first-le)))
+          (first .above k (le-refl k) (omega (arith, next, first-le, l .within)))
+
+      -- it is the nearest place, if the aim is at most in the middle between `lower` and every place from `upper` on
+      take-lower : ((j : ℕ) → upper ≤ j → j ≤ 765 → aim + aim ≤ at g j + at g lower) → k ≡ nearestPlace (at g) 765 aim
+      take-lower middle =
+          nearest-unique (record {
+            within = omega (arith, next, first-le, l .within);
+            least = λ j h.
+                either upper j
+                (λ q. omega (arith, first-same, lower-below, middle j q h, l .above j q h))
+                (λ q. omega (arith, first-same, lower-below, before-upper j q));
+            first = λ j h. omega (arith, first-same, lower-below, first .below j h);
+          }) (nearest-is (at g) 765 aim)
+
+    -- no place holds as much as the aim: the first that holds as much as `lower` is the nearest
+    pub found-past : (k : ℕ) → 766 ≤ upper → FirstAtLeast g (at g lower) k → k ≡ nearestPlace (at g) 765 aim
+    found-past k h first = take-lower k first (λ j q i. omega arith)
+
+    module _ (h : upper < 766) where
+      -- `upper` holds at least the aim
+      pub upper-above : aim ≤ at g upper
+      upper-above = l .above upper (le-refl upper) (omega arith)
+
+      -- and is the nearer: it is the nearest place
+      pub found-upper : at g upper - aim < aim - at g lower → upper ≡ nearestPlace (at g) 765 aim
+      found-upper q =
+          nearest-unique (record {
+            within = omega arith;
+            least = λ j i.
+                either upper j
+                (λ m. omega (arith, upper-above, up upper j m i))
+                (λ m. omega (arith, upper-above, lower-below, q, before-upper j m));
+            first = λ j m. omega (arith, upper-above, lower-below, q, before-upper j m);
+          }) (nearest-is (at g) 765 aim)
+
+      -- or is not the nearer: the first place that holds as much as `lower` is
+      pub found-lower : (k : ℕ) → aim - at g lower ≤ at g upper - aim → FirstAtLeast g (at g lower) k → k ≡ nearestPlace (at g) 765 aim
+      found-lower k q first =
+          take-lower k first (λ j m i. omega (arith, upper-above, lower-below, q, up upper j m i))

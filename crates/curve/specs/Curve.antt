@@ -1,0 +1,70 @@
+-- The tone curve of a shot (document 01, "Fixing the curve"): N is its number of pixels, and H(s) of them have a sum of at most s.
+use mathlib.Core.Path.{_≡_}
+use mathlib.Core.Bool.{cond}
+use mathlib.Core.List.{List}
+use Prim.Native.Nat.{ℕ, zero, suc, _*_, _≤_, _<_}
+use lib.Dec.{eqb}
+use lib.ListN.{length}
+use Rattle.rounding.specs.Near.{near}
+use Rattle.tables.specs.Table.{tabulate, at}
+use Rattle.targets.specs.Cube.{G}
+use Rattle.curve.specs.Histogram.{IsCumulative}
+use Rattle.curve.specs.Nearest.{nearestPlace}
+use Rattle.curve.specs.declared.Choice.{Choice}
+use Rattle.curve.specs.declared.Choice.the-variants.{Cube, Equalised}
+
+-- The share of the pixels that a sum's entry is made from, H(s) / N, is `shareOf below upto` over `wholeOf N`, where `below` pixels
+-- have a smaller sum and `upto` have a sum of at most s.
+unfoldable pub shareOf : ℕ → ℕ → ℕ
+shareOf below upto = upto
+
+unfoldable pub wholeOf : ℕ → ℕ
+wholeOf n = n
+
+-- H(s − 1), with H(−1) = 0.
+abbrev pub before : (ℕ → ℕ) → ℕ → ℕ
+before H zero = 0
+before H (suc s) = H s
+
+-- The share for the sum s.
+abbrev pub shareAt : (ℕ → ℕ) → ℕ → ℕ
+shareAt H s = shareOf (before H s) (H s)
+
+-- Choice 1, cube (equation 14): the k where the distance between N × G(k) and G(765) × H(s) is least. Of two equal distances the
+-- smaller k wins.
+unfoldable pub cubeEntry : ℕ → ℕ → ℕ
+cubeEntry n h = nearestPlace (λ k. n * G k) 765 (G 765 * h)
+
+-- Choice 2, equalised (equation 5): 765 × H(s) / N to the nearest whole number, halves up.
+unfoldable pub equalisedEntry : ℕ → ℕ → ℕ
+equalisedEntry n h = near (765 * h) n
+
+abbrev pub byChoice : Choice → ℕ → ℕ → ℕ
+byChoice Cube = cubeEntry
+byChoice Equalised = equalisedEntry
+
+-- In both, entry 0 is then set to 0 and entry 765 to 765.
+unfoldable pub withEnds : (ℕ → ℕ) → ℕ → ℕ
+withEnds f s = cond (eqb s 0) 0 (cond (eqb s 765) 765 (f s))
+
+-- The entry for the sum s.
+unfoldable pub entry : Choice → ℕ → (ℕ → ℕ) → ℕ → ℕ
+entry choice N H = withEnds (λ s. byChoice choice (wholeOf N) (shareAt H s))
+
+-- The curve: 766 entries, one for each sum.
+unfoldable pub toneCurve : Choice → ℕ → (ℕ → ℕ) → List ℕ
+toneCurve choice N H = tabulate (entry choice N H) 766
+
+-- What every tone curve is: 766 entries, the first 0 and the last 765, none above 765 and none less than the one before.
+pub record IsToneCurve (curve : List ℕ) : Type 0 where
+  pub size : length curve ≡ 766
+  pub black : at curve 0 ≡ 0
+  pub white : at curve 765 ≡ 765
+  pub range : (s : ℕ) → s ≤ 765 → at curve s ≤ 765
+  pub rises : (s t : ℕ) → s ≤ t → t ≤ 765 → at curve s ≤ at curve t
+
+-- Claim: a curve made from a cumulative histogram of at least one pixel is such a curve. Proved: proofs/Curve.antt,
+-- `curves-are-tone-curves`.
+abbrev pub CurvesAreToneCurves : Type 0
+CurvesAreToneCurves =
+    (choice : Choice) (N : ℕ) (H : ℕ → ℕ) → 0 < N → IsCumulative N H → IsToneCurve (toneCurve choice N H)

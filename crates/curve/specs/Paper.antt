@@ -1,0 +1,28 @@
+-- Source 004, equations 5 and 14, in exact fractions. H_L is the number of pixels, H_l how many of them the intensity l reaches.
+use mathlib.Core.Path.{_≡_}
+use mathlib.Core.Bool.{Bool, false}
+use Prim.Native.Nat.{ℕ, _≤_, _<_}
+use lib.Dec.{T}
+use Rattle.rounding.specs.Fraction.{Fraction, whole, _over_, _⊕_, _⊖_, _⊗_, _⊘_, _≼_, nearest}
+use Rattle.targets.specs.Paper.{area}
+use Rattle.curve.specs.Curve.{cubeEntry, equalisedEntry}
+
+-- Equation 5: f(l) = round((L / H_L) H_l), with L = 765.
+abbrev pub equation5 : ℕ → ℕ → Fraction
+equation5 hL hl = (whole 765 ⊘ whole hL) ⊗ whole hl
+
+-- |x − y|: one of the two differences is 0.
+abbrev pub apart : Fraction → Fraction → Fraction
+apart x y = (x ⊖ y) ⊕ (y ⊖ x)
+
+-- Equation 14: f(l) is the k, 0 to 765, where |H_L A(3k / L) − A(3) H_l| is least. Equation 11's factor √3/6 is left out of both.
+abbrev pub equation14 : ℕ → ℕ → ℕ → Fraction
+equation14 hL hl k = apart (whole hL ⊗ area (k over 255)) (area (whole 3) ⊗ whole hl)
+
+-- Claim: document 01's entries are the paper's; of two equal distances the smaller k wins. Proved: proofs/Paper.antt,
+-- `entries-are-the-papers`.
+pub record EntriesAreThePapers : Type 0 where
+  pub equalised : (n h : ℕ) → 0 < n → equalisedEntry n h ≡ nearest (equation5 n h)
+  pub within : (n h : ℕ) → cubeEntry n h ≤ 765
+  pub least : (n h j : ℕ) → j ≤ 765 → T (equation14 n h (cubeEntry n h) ≼ equation14 n h j)
+  pub first : (n h j : ℕ) → j < cubeEntry n h → (equation14 n h j ≼ equation14 n h (cubeEntry n h)) ≡ false

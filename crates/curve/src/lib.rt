@@ -1,0 +1,190 @@
+// The tone curve of a shot, from its histogram (document 01, "Fixing the curve").
+ghost use mathlib.Core.Path.{_≡_};
+ghost use mathlib.Core.Bool.{true};
+ghost use Prim.Native.Nat.{_*_, _^_, _≤_, _<_};
+ghost use Rattle.rounding.specs.Near.{near};
+ghost use Rattle.tables.specs.Table.{tabulate, at};
+ghost use Rattle.targets.specs.Cube.{G};
+ghost use Rattle.curve.specs.Choices.{isChoice, choiceOf};
+ghost use Rattle.curve.specs.Curve.{shareOf, wholeOf, shareAt, equalisedEntry, withEnds, toneCurve};
+ghost use Rattle.curve.specs.Histogram.{cumulative};
+ghost use Rattle.curve.specs.Inner.{NonDecreasing, FirstAtLeast, HistogramOf, Shares, AimsFit};
+ghost use Rattle.curve.specs.Nearest.{nearestPlace};
+
+// The curve choices: the cube's (equation 14 of source 004) and the equalised one (equation 5).
+pub enum Choice {
+    Cube,
+    Equalised,
+}
+
+// Whether a number names a choice.
+pub fn is_choice(number: u32) -> bool
+    ensures { λ r. ⌜ r ≡ isChoice number ⌝ }
+{
+    number == 1 || number == 2
+}
+
+// The choice that a number names.
+pub fn choice_of(number: u32) -> Choice
+    requires { ⌜ isChoice number ≡ true ⌝ }
+    ensures { λ r. ⌜ r ≡ choiceOf number ⌝ }
+{
+    if number == 1 {
+        return Choice::Cube;
+    }
+    Choice::Equalised
+}
+
+// The first place at which the sequence is at least v, or 766: a binary search.
+fn first_at_least(g: &[u64; 766], v: u64) -> usize
+    requires { ⌜ NonDecreasing (now g) ⌝ }
+    ensures { λ r. ⌜ FirstAtLeast (now (g .entry)) v r ⌝ }
+{
+    let mut low = 0;
+    let mut high = 766;
+    while low < high {
+        let middle = low + (high - low) / 2;
+        if g[middle] < v {
+            low = middle + 1;
+        } else {
+            high = middle;
+        }
+    }
+    low
+}
+
+// The smallest place at which the sequence lies nearest to the aim. A sequence may stay level, so the place of a value is the
+// first that holds it.
+fn nearest_place(g: &[u64; 766], aim: u64) -> usize
+    requires { ⌜ NonDecreasing (now g) ⌝ }
+    ensures { λ r. ⌜ r ≡ nearestPlace (at (now (g .entry))) 765 aim ⌝ }
+{
+    let up = first_at_least(g, aim);
+    if up == 0 {
+        return 0;
+    }
+    let lower = g[up - 1];
+    if 766 <= up {
+        return first_at_least(g, lower);
+    }
+    if g[up] - aim < aim - lower {
+        return up;
+    }
+    first_at_least(g, lower)
+}
+
+// The cube's targets, each times w.
+fn scaled_targets(w: u64) -> [u64; 766]
+    requires { ⌜ w ≤ 2 ^ 32 ⌝ }
+    ensures { λ r. ⌜ r ≡ tabulate (λ k. w * G k) 766 ⌝ }
+{
+    let mut scaled = [0u64; 766];
+    let mut k: usize = 0;
+    while k < 766 {
+        scaled[k] = w * targets::target(k);
+        k += 1;
+    }
+    scaled
+}
+
+// A count as a wider number, with its range.
+fn wide(count: u32) -> u64
+    ensures { λ r. ⌜ (r ≡ count) × (r < 2 ^ 32) ⌝ }
+{
+    count as u64
+}
+
+// What a sum's entry counts of the pixels: `below` have a smaller sum, `upto` a sum of at most it.
+fn share(below: u64, upto: u64) -> u64
+    requires { ⌜ (below ≤ 2 ^ 42) × (upto ≤ 2 ^ 42) ⌝ }
+    ensures { λ r. ⌜ r ≡ shareOf below upto ⌝ }
+{
+    upto
+}
+
+// What all pixels count.
+fn whole_of(pixels: u64) -> u64
+    requires { ⌜ pixels ≤ 2 ^ 31 ⌝ }
+    ensures { λ r. ⌜ r ≡ wholeOf pixels ⌝ }
+{
+    pixels
+}
+
+// The share of each sum, from the cumulative counts.
+fn shares_of(counts: &[u32; 766]) -> [u64; 766]
+    ensures { λ r. ⌜ r ≡ tabulate (shareAt (cumulative (now (counts .entry)))) 766 ⌝ }
+{
+    let mut shares = [0u64; 766];
+    let mut below: u64 = 0;
+    let mut s: usize = 0;
+    while s < 766 {
+        let upto = below + wide(counts[s]);
+        shares[s] = share(below, upto);
+        below = upto;
+        s += 1;
+    }
+    shares
+}
+
+// For each sum the place of the sequence nearest to scale times its share.
+fn nearest_entries(g: &[u64; 766], scale: u64, shares: &[u64; 766]) -> [u16; 766]
+    requires { ⌜ NonDecreasing (now g) ⌝ }
+    requires { ⌜ AimsFit scale (now shares) ⌝ }
+    ensures { λ r. ⌜ r ≡ tabulate (λ s. nearestPlace (at (now (g .entry))) 765 (scale * at (now (shares .entry)) s)) 766 ⌝ }
+{
+    let mut entries = [0u16; 766];
+    let mut s: usize = 0;
+    while s < 766 {
+        entries[s] = nearest_place(g, scale * shares[s]) as u16;
+        s += 1;
+    }
+    entries
+}
+
+// 765 times a share of the whole, rounded once.
+fn equalised_entry(whole: u64, share: u64) -> u16
+    requires { ⌜ (0 < whole) × (whole ≤ 2 ^ 32) × (share ≤ whole) ⌝ }
+    ensures { λ r. ⌜ r ≡ equalisedEntry whole share ⌝ }
+{
+    rounding::rounded(765 * share, whole) as u16
+}
+
+// For each sum that number.
+fn equalised_entries(whole: u64, shares: &[u64; 766]) -> [u16; 766]
+    requires { ⌜ Shares whole (now shares) ⌝ }
+    ensures { λ r. ⌜ r ≡ tabulate (λ s. equalisedEntry whole (at (now (shares .entry)) s)) 766 ⌝ }
+{
+    let mut entries = [0u16; 766];
+    let mut s: usize = 0;
+    while s < 766 {
+        entries[s] = equalised_entry(whole, shares[s]);
+        s += 1;
+    }
+    entries
+}
+
+// Black and white stay.
+fn with_ends(entries: [u16; 766]) -> [u16; 766]
+    ensures { λ r. ⌜ r ≡ tabulate (withEnds (at entries)) 766 ⌝ }
+{
+    let mut curve = entries;
+    curve[0] = 0;
+    curve[765] = 765;
+    curve
+}
+
+// The tone curve of a histogram.
+pub fn tone_curve(choice: Choice, pixels: u32, counts: &[u32; 766]) -> [u16; 766]
+    requires { ⌜ HistogramOf pixels (now counts) ⌝ }
+    ensures { λ r. ⌜ r ≡ toneCurve choice pixels (cumulative (now (counts .entry))) ⌝ }
+{
+    let whole = whole_of(pixels as u64);
+    let shares = shares_of(counts);
+    match choice {
+        Choice::Cube => {
+            let scaled = scaled_targets(whole);
+            with_ends(nearest_entries(&scaled, targets::target(765), &shares))
+        }
+        Choice::Equalised => with_ends(equalised_entries(whole, &shares)),
+    }
+}

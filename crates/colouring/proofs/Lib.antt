@@ -1,0 +1,2 @@
+pub mod EachPixel
+pub mod Written

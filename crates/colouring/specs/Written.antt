@@ -1,0 +1,59 @@
+-- The pixels that a colouring writes, and their accuracy (document 00, demand 3).
+use mathlib.Core.List.{List}
+use mathlib.Core.Path.{_≡_}
+use Prim.Native.Nat.{ℕ, _+_, _/_, _≤_}
+use lib.ListN.{length}
+use Rattle.tables.specs.Table.{tabulate, at, _among_}
+use Rattle.pixel.specs.Accuracy.{factor, PixelAccurate}
+use Rattle.pixel.specs.Move.{intensity}
+use Rattle.pixel.specs.Strip.{pixelAt, Bytes}
+use Rattle.pixel.specs.declared.Method.{Method}
+use Rattle.pixel.specs.declared.Pixel.{Pixel}
+use Rattle.curve.specs.Curve.{IsToneCurve}
+use Rattle.colouring.specs.Colouring.{colouredStrip}
+
+-- A pixel written: the source pixel, what stands at its place in the destination, the method, and the curve's entry for its sum.
+pub record Written : Type 0 where
+  pub input : Pixel
+  pub output : Pixel
+  pub method : Method
+  pub entry : ℕ
+
+-- The pixel keeps the rules of demand 3. The factor is set by input sum, entry and method alone.
+abbrev pub WrittenAccurate : Written → Type 0
+WrittenAccurate w =
+    PixelAccurate (factor (w .method) (intensity (w .input)) (w .entry)) (w .entry) (w .input) (w .output)
+
+-- The pixels of a source that was coloured by a method and a curve, the destination then holding these bytes.
+abbrev pub pixelsWritten : Method → List ℕ → List ℕ → List ℕ → List Written
+pixelsWritten method curve source bytes =
+    tabulate
+    (λ i.
+    record {
+      input = pixelAt source i;
+      output = pixelAt bytes i;
+      method = method;
+      entry = at curve (intensity (pixelAt source i));
+    })
+    (length source / 3)
+
+-- The pixels that a colouring by a tone curve writes.
+abbrev pub colouredPixels : Method → List ℕ → List ℕ → List Written
+colouredPixels method curve source = pixelsWritten method curve source (colouredStrip method curve source)
+
+-- Claim: every pixel written by a tone curve keeps the rules. Proved: proofs/Written.antt, `coloured-pixels-are-accurate`.
+abbrev pub ColouredPixelsAreAccurate : Type 0
+ColouredPixelsAreAccurate =
+    (method : Method) (curve source : List ℕ) → IsToneCurve curve → Bytes source
+    → (w : Written) → w among colouredPixels method curve source → WrittenAccurate w
+
+-- Of two pixels, the one whose input sum is no smaller has a sum at most two below the other's.
+abbrev pub AtMostTwoBelow : Written → Written → Type 0
+AtMostTwoBelow v w = intensity (v .input) ≤ intensity (w .input) → intensity (v .output) ≤ intensity (w .output) + 2
+
+-- Claim: that holds of any two pixels written by one tone curve, in whichever colourings and by whichever methods.
+-- Proved: proofs/Written.antt, `one-curve-keeps-order`.
+abbrev pub OneCurveKeepsOrder : Type 0
+OneCurveKeepsOrder =
+    (m n : Method) (curve source other : List ℕ) → IsToneCurve curve → Bytes source → Bytes other
+    → (v w : Written) → v among colouredPixels m curve source → w among colouredPixels n curve other → AtMostTwoBelow v w

@@ -1,0 +1,9 @@
+pub mod Counts
+pub mod Passed
+pub mod Sound
+pub mod Steps
+pub mod Pixels
+pub mod Accuracy
+pub mod Counting
+pub mod Premise
+pub mod Answers

@@ -1,0 +1,73 @@
+-- What the premise of a shot's calls gives: to the calls' own proofs, and to callers for the next call.
+use mathlib.Core.Path.{_≡_, refl, sym, ap, _∙_, subst}
+use mathlib.Core.Bool.{true}
+use mathlib.Core.List.{List}
+use mathlib.Core.Option.{Option, some}
+use Prim.Native.Nat.{ℕ, _+_, _/_, _≤_, _<_}
+use native.Mathlib.Omega.{arith}
+use lib.ListN.{length}
+use Rattle.tables.specs.Table.{at}
+use Rattle.pixel.specs.Strip.{Bytes}
+use Rattle.curve.specs.Curve.{IsToneCurve}
+use Rattle.curve.specs.Inner.{HistogramOf}
+use Rattle.colouring.specs.Inner.{EntriesInRange}
+use Rattle.shot.specs.Book.{pixelsIn}
+use Rattle.shot.specs.Inner.{CountsFit}
+use Rattle.shot.specs.Reachable.{Reachable, Reachable.byOpening, Reachable.byMeasuring, Reachable.byFixing}
+use Rattle.shot.specs.Shot.{pixelLimit, opened, measured, fixedWith, ColourRequest, Outcome, coloured}
+use Rattle.shot.specs.declared.Shot.{Shot}
+use Rattle.shot.specs.declared.Answer.{Answer}
+use Rattle.shot.proofs.Counts.{countOf-le, cumulative-counts, pixels-cumulative}
+use Rattle.shot.proofs.Passed.{Measurable, Fixable}
+use Rattle.shot.proofs.Pixels.{has-some}
+use Rattle.shot.proofs.Sound.{Sound, reachable-sound}
+
+module _ {x : Shot} (r : Reachable x) where
+  -- a shot's pixels are within the limit
+  pub within-limit : x .pixels ≤ pixelLimit
+  within-limit = reachable-sound r .1 .limit
+
+  -- the counts can take an accepted strip
+  pub counts-fit : (strip : List ℕ) → Measurable (x .fixed) (x .pixels) (length strip) → CountsFit (x .counts) strip
+  counts-fit strip ok =
+      let (b, h) = reachable-sound r in
+      let held = pixelsIn (b .strips) in
+      record {
+        whole = ok .whole;
+        fit = λ s l. omega (arith, h .represents .counts s l, countOf-le s held, h .represents .pixels, ok .room);
+      }
+
+  -- the counts of a shot with pixels are their histogram
+  pub histogram-of : 0 < x .pixels → HistogramOf (x .pixels) (x .counts)
+  histogram-of positive =
+      let (b, h) = reachable-sound r in
+      let held = pixelsIn (b .strips) in
+      record {
+        all =
+            cumulative-counts (x .counts) held (h .represents .counts) 765 (omega arith)
+            ∙ pixels-cumulative held (h .counted) .last
+            ∙ sym (h .represents .pixels);
+        some = positive;
+        most = omega (arith, h .limit);
+      }
+
+  -- a fixed shot's curve has no entry above 765
+  pub entries-in-range : x .fixed ≡ true → EntriesInRange (x .curve)
+  entries-in-range fixed =
+      let (b, h) = reachable-sound r in
+      let (curve, is) = has-some (b .curve) (sym (h .represents .fixed) ∙ fixed) in
+      subst EntriesInRange (sym (h .represents .curve curve is)) (h .curve curve is .range)
+
+-- For callers: a shot that a call handed back meets the next call's premise.
+pub from-open : {y : Shot} → y ≡ opened → Reachable y
+from-open e = subst Reachable (sym e) byOpening
+
+pub from-measure : {x : Shot} {a : Answer} (strip : List ℕ) → Reachable x → Bytes strip → a ≡ measured x strip → Reachable (a .shot)
+from-measure strip r bytes e = subst (λ (b : Answer). Reachable (b .shot)) (sym e) (byMeasuring r strip bytes)
+
+pub from-fix : {x : Shot} {a : Answer} (choice : ℕ) → Reachable x → a ≡ fixedWith x choice → Reachable (a .shot)
+from-fix choice r e = subst (λ (b : Answer). Reachable (b .shot)) (sym e) (byFixing r choice)
+
+pub from-colour : {x : Shot} {a : Answer} (q : ColourRequest) → Reachable x → a ≡ coloured x q .answer → Reachable (a .shot)
+unfolding coloured
+from-colour q r e = subst (λ (b : Answer). Reachable (b .shot)) (sym e) r

@@ -1,0 +1,197 @@
+-- What a step of the list has behind it.
+use mathlib.Core.Path.{_≡_, refl, sym, ap, _∙_, subst}
+use mathlib.Core.Bool.{Bool, true, false, _&&_, cond}
+use mathlib.Core.List.{List, [], _∷_, _++_, append-assoc, append-nil, List·Memᴰ·head, List·Memᴰ·tail, List·Memᴰ·not-nil, List·Memᴰ·append-cases, Memᴰ·append-left, Memᴰ·append-right, List·Memᴰ·eq-of-singleton}
+use mathlib.Core.Logic.{_⊎_, inl, inr, ⊎-elim}
+use mathlib.Core.Option.{Option, none, some}
+use Prim.Native.Nat.{ℕ, suc, _≤_, _<_}
+use native.Mathlib.Omega.{arith}
+use borrow.Author.Tests.{eqb-true, eq-eqb, ne-eqb}
+use lib.Dec.{eqb}
+use Rattle.tables.specs.Table.{_among_}
+use Rattle.shot.specs.Accuracy.{stripOf, stripsMeasured, FixedBy}
+use Rattle.shot.specs.Book.{Call, Call.opening, Call.measuring, Call.fixing, Call.colouring, Book, emptyBook, curveOf, hasCurve, expectedAnswer, bookStep}
+use Rattle.shot.specs.Run.{Step, number, isOpening}
+use Rattle.shot.specs.Shot.{Outcome}
+use Rattle.shot.specs.declared.Shot.{Shot}
+use Rattle.shot.specs.declared.Answer.{Answer}
+use Rattle.shot.proofs.Sound.{no-curve, some-same}
+
+true-false : true ≡ false → ⊥
+true-false e = let bad : _≡_ {A = ℕ} 0 1 = cc in omega arith
+
+-- an accepted measuring's strip joins those held; nothing else changes them, but an opening
+book-strips : (b : Book) (c : Call) → isOpening c ≡ false
+    → bookStep b c .strips ≡ b .strips ++ cond (eqb (expectedAnswer b c) 0) (stripOf c) []
+book-strips b opening o = absurd (true-false o)
+book-strips b (measuring strip) o = go (eqb (expectedAnswer b (measuring strip)) 0)
+  where
+    go : (t : Bool) → (cond t (record { strips = b .strips ++ (strip ∷ []); curve = b .curve }) b) .strips ≡ b .strips ++ cond t (strip ∷ []) []
+    go true = refl
+    go false = simp append-nil
+book-strips b (fixing choice) o = go (eqb (expectedAnswer b (fixing choice)) 0)
+  where
+    go : (t : Bool) → (cond t (record { strips = b .strips; curve = some (curveOf choice (b .strips)) }) b) .strips ≡ b .strips ++ cond t [] []
+    go true = simp append-nil
+    go false = simp append-nil
+book-strips b (colouring q) o = go (eqb (expectedAnswer b (colouring q)) 0)
+  where
+    go : (t : Bool) → (cond t b b) .strips ≡ b .strips ++ cond t [] []
+    go true = simp append-nil
+    go false = simp append-nil
+
+-- a book with a curve stays as it is until the next opening
+book-stays : (b : Book) (c : Call) (curve : List ℕ) → isOpening c ≡ false → b .curve ≡ some curve → bookStep b c ≡ b
+book-stays b opening curve o e = absurd (true-false o)
+book-stays b (measuring strip) curve o e = simp e
+book-stays b (fixing choice) curve o e = simp e
+book-stays b (colouring q) curve o e = same (eqb (expectedAnswer b (colouring q)) 0)
+  where
+    same : (t : Bool) → cond t b b ≡ b
+    same true = refl
+    same false = refl
+
+-- a call that made the book's curve
+record Made (b : Book) (c : Call) (curve : List ℕ) : Type 0 where
+  choice : ℕ
+  call : c ≡ fixing choice
+  accepted : expectedAnswer b c ≡ 0
+  strips : bookStep b c .strips ≡ b .strips
+  made : curve ≡ curveOf choice (b .strips)
+
+-- is an accepted fixing
+book-made : (b : Book) (c : Call) (curve : List ℕ) → b .curve ≡ none → bookStep b c .curve ≡ some curve → Made b c curve
+book-made b opening curve n e = absurd (no-curve e)
+book-made b (measuring strip) curve n e = absurd (no-curve (sym n ∙ go (eqb (expectedAnswer b (measuring strip)) 0) e))
+  where
+    go : (t : Bool) → (cond t (record { strips = b .strips ++ (strip ∷ []); curve = b .curve }) b) .curve ≡ some curve → b .curve ≡ some curve
+    go true e = e
+    go false e = e
+book-made b (fixing choice) curve n e = go (eqb (expectedAnswer b (fixing choice)) 0) refl e
+  where
+    go : (t : Bool) → eqb (expectedAnswer b (fixing choice)) 0 ≡ t
+        → (cond t (record { strips = b .strips; curve = some (curveOf choice (b .strips)) }) b) .curve ≡ some curve
+        → Made b (fixing choice) curve
+    go true z e = record {
+      choice = choice;
+      call = refl;
+      accepted = eqb-true (expectedAnswer b (fixing choice)) 0 z;
+      strips = simp z;
+      made = sym (some-same e);
+    }
+    go false z e = absurd (no-curve (sym n ∙ e))
+book-made b (colouring q) curve n e = absurd (no-curve (sym n ∙ go (eqb (expectedAnswer b (colouring q)) 0) e))
+  where
+    go : (t : Bool) → (cond t b b) .curve ≡ some curve → b .curve ≡ some curve
+    go true e = e
+    go false e = e
+
+-- strips measured in one run of steps and then another
+measured-append : (n : ℕ) (ts us : List Step) → stripsMeasured n (ts ++ us) ≡ stripsMeasured n ts ++ stripsMeasured n us
+measured-append n [] us = refl
+measured-append n (t ∷ ts) us = simp (measured-append n ts us, append-assoc)
+
+-- steps of earlier shots measured nothing for a later one
+measured-none : (n : ℕ) (ts : List Step) → ((t : Step) → t among ts → t .openings < n) → stripsMeasured n ts ≡ []
+measured-none n [] less = refl
+measured-none n (t ∷ ts) less =
+    simp (
+      ne-eqb (t .openings) n (λ e. omega (arith, less t (List·Memᴰ·head refl))),
+      measured-none n ts (λ u m. less u (List·Memᴰ·tail m)),
+    )
+
+-- the book b, before a call with n openings before it, after the steps `past`
+pub record Past (n : ℕ) (b : Book) (past : List Step) : Type 0 where
+  pub openings : (u : Step) → u among past → u .openings ≤ n
+  pub strips : b .strips ≡ stripsMeasured n past
+  pub fixed : (curve : List ℕ) → b .curve ≡ some curve → FixedBy n past curve
+  -- a curve of the same shot is still the book's
+  pub kept : (u : Step) → u among past → u .openings ≡ n → (curve : List ℕ) → u .book .curve ≡ some curve → b .curve ≡ some curve
+
+pub past-start : Past 0 emptyBook []
+past-start = record {
+  openings = λ u m. absurd (List·Memᴰ·not-nil m);
+  strips = refl;
+  fixed = λ curve e. absurd (no-curve e);
+  kept = λ u m. absurd (List·Memᴰ·not-nil m);
+}
+
+-- one step more
+module _ {n : ℕ} {b : Book} {past : List Step} (h : Past n b past) (s : Step) (first : s .openings ≡ n) (book : s .book ≡ b)
+    (answer : number s ≡ expectedAnswer b (s .call)) where
+  abbrev more : List Step
+  more = past ++ (s ∷ [])
+
+  one-more : (P : Step → Type 0) → ((u : Step) → u among past → P u) → P s → (u : Step) → u among more → P u
+  one-more P old new u m =
+      ⊎-elim (λ (k : u among past). old u k) (λ (k : u among (s ∷ [])). subst P (sym (List·Memᴰ·eq-of-singleton k)) new)
+      (List·Memᴰ·append-cases past m)
+
+  -- an opening puts a new shot in its place
+  past-opening : Past (suc n) emptyBook more
+  past-opening =
+      let less = one-more (λ (u : Step). u .openings < suc n) (λ u m. omega (arith, h .openings u m)) (omega arith) in
+      record {
+        openings = λ u m. omega (arith, less u m);
+        strips = sym (measured-none (suc n) more less);
+        fixed = λ curve e. absurd (no-curve e);
+        kept = λ u m e. absurd (omega (arith, less u m));
+      }
+
+  -- every other call goes on with the same shot
+  module _ (same : isOpening (s .call) ≡ false) where
+    abbrev next : Book
+    next = bookStep b (s .call)
+
+    strips-more : next .strips ≡ stripsMeasured n more
+    strips-more =
+        book-strips b (s .call) same
+        ∙ sym (measured-append n past (s ∷ []) ∙ simp (eq-eqb (s .openings) n first, answer, sym (h .strips), append-nil))
+
+    curve-stays : (curve : List ℕ) → b .curve ≡ some curve → next .curve ≡ some curve
+    curve-stays curve e = ap (λ (d : Book). d .curve) (book-stays b (s .call) curve same e) ∙ e
+
+    fixed-more : (had : Option (List ℕ)) → b .curve ≡ had → (curve : List ℕ) → next .curve ≡ some curve → FixedBy n more curve
+    fixed-more none none-yet curve e =
+        let m = book-made b (s .call) curve none-yet e in
+        record {
+          fix = s;
+          member = Memᴰ·append-right past (List·Memᴰ·head refl);
+          sameShot = first;
+          choice = m .choice;
+          call = m .call;
+          accepted = answer ∙ m .accepted;
+          made = m .made ∙ ap (curveOf (m .choice)) (sym (m .strips) ∙ strips-more);
+        }
+    fixed-more (some old) has curve e =
+        let unchanged = book-stays b (s .call) old same has in
+        let f = h .fixed curve (sym (ap (λ (d : Book). d .curve) unchanged) ∙ e) in
+        record {
+          fix = f .fix;
+          member = Memᴰ·append-left (s ∷ []) (f .member);
+          sameShot = f .sameShot;
+          choice = f .choice;
+          call = f .call;
+          accepted = f .accepted;
+          made = f .made ∙ ap (curveOf (f .choice)) (sym (h .strips) ∙ sym (ap (λ (d : Book). d .strips) unchanged) ∙ strips-more);
+        }
+
+    past-within : Past n next more
+    past-within = record {
+      openings = one-more (λ (u : Step). u .openings ≤ n) (h .openings) (omega arith);
+      strips = strips-more;
+      fixed = fixed-more (b .curve) refl;
+      kept =
+          one-more (λ (u : Step). u .openings ≡ n → (curve : List ℕ) → u .book .curve ≡ some curve → next .curve ≡ some curve)
+          (λ u m e curve c. curve-stays curve (h .kept u m e curve c))
+          (λ e curve c. curve-stays curve (ap (λ (d : Book). d .curve) (sym book) ∙ c));
+    }
+
+  pub past-more : Past (cond (isOpening (s .call)) (suc n) n) (bookStep b (s .call)) more
+  past-more = go (s .call) refl
+    where
+      go : (c : Call) → s .call ≡ c → Past (cond (isOpening c) (suc n) n) (bookStep b c) more
+      go opening e = past-opening
+      go (measuring strip) e = subst (λ (c : Call). Past n (bookStep b c) more) e (past-within (ap isOpening e))
+      go (fixing choice) e = subst (λ (c : Call). Past n (bookStep b c) more) e (past-within (ap isOpening e))
+      go (colouring q) e = subst (λ (c : Call). Past n (bookStep b c) more) e (past-within (ap isOpening e))

@@ -1,0 +1,13 @@
+-- What the inner functions of this crate require; their callers show it. No outside call's contract cites these.
+use mathlib.Core.Bool.{true}
+use mathlib.Core.List.{List}
+use mathlib.Core.Path.{_≡_}
+use Prim.Native.Nat.{ℕ, _+_, _/_, _^_, _≤_, _<_}
+use lib.ListN.{length}
+use Rattle.tables.specs.Table.{at}
+use Rattle.pixel.specs.Strip.{isWhole}
+
+-- The strip is made of whole pixels, and no count can pass 32 bits when they are added.
+pub record CountsFit (counts strip : List ℕ) : Type 0 where
+  pub whole : isWhole (length strip) ≡ true
+  pub fit : (s : ℕ) → s ≤ 765 → at counts s + length strip / 3 < 2 ^ 32

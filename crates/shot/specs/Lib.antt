@@ -1,0 +1,6 @@
+pub mod Shot
+pub mod Reachable
+pub mod Book
+pub mod Run
+pub mod Accuracy
+pub mod Inner

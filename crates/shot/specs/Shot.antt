@@ -1,0 +1,110 @@
+-- What a shot's calls hand back (document 01, "The ground covered", "Measuring", "Who can cause which refusal").
+use mathlib.Core.Bool.{Bool, true, false, cond, not}
+use mathlib.Core.List.{List, [], _∷_}
+use Prim.Native.Nat.{ℕ, _+_, _/_}
+use lib.Dec.{ltb, eqb}
+use lib.ListN.{length, replicate}
+use Rattle.refusal.specs.Refusal.{Check, _refuses_, firstOf}
+use Rattle.tables.specs.Table.{tabulate, at}
+use Rattle.pixel.specs.Methods.{isMethod, methodOf}
+use Rattle.pixel.specs.Move.{intensity}
+use Rattle.pixel.specs.Strip.{isWhole, pixelsOf}
+use Rattle.pixel.specs.declared.Pixel.{Pixel}
+use Rattle.curve.specs.Choices.{isChoice, choiceOf}
+use Rattle.curve.specs.Curve.{toneCurve}
+use Rattle.curve.specs.Histogram.{cumulative}
+use Rattle.colouring.specs.Colouring.{colouredStrip}
+use Rattle.shot.specs.declared.Shot.{Shot}
+use Rattle.shot.specs.declared.Answer.{Answer}
+
+-- At most 16,777,216 pixels to a shot.
+abbrev pub pixelLimit : ℕ
+pixelLimit = 16777216
+
+-- How many of the pixels have the sum s.
+abbrev pub countOf : ℕ → List Pixel → ℕ
+countOf s [] = 0
+countOf s (p ∷ ps) = cond (eqb (intensity p) s) 1 0 + countOf s ps
+
+-- The tally of 766 counts, one for each sum, with the pixels added to it.
+unfoldable pub withPixels : List ℕ → List Pixel → List ℕ
+withPixels counts ps = tabulate (λ s. at counts s + countOf s ps) 766
+
+-- A SHOT is opened empty: all counts are zero. (So is the place of its curve, which nothing reads before it is fixed.)
+unfoldable pub opened : Shot
+opened = record { counts = replicate 766 0; pixels = 0; fixed = false; curve = replicate 766 0 }
+
+-- Measure 1, 2, 3, from whether the shot is fixed, its pixels and the strip's length. 1: a shot already fixed. 2: the length is not
+-- a multiple of 3. 3: the pixels would exceed the limit.
+abbrev pub measureChecks : Bool → ℕ → ℕ → List Check
+measureChecks fixed pixels strip =
+    fixed refuses 1 ∷ not (isWhole strip) refuses 2 ∷ ltb pixelLimit (pixels + strip / 3) refuses 3 ∷ []
+
+-- Each accepted strip adds its pixels to the counts and to N. A refused measure hands back the shot unchanged.
+unfoldable pub measured : Shot → List ℕ → Answer
+measured x strip =
+    let number = firstOf (measureChecks (x .fixed) (x .pixels) (length strip)) in
+    record {
+      shot =
+          cond (eqb number 0)
+          (record {
+            counts = withPixels (x .counts) (pixelsOf strip);
+            pixels = x .pixels + length strip / 3;
+            fixed = x .fixed;
+            curve = x .curve;
+          })
+          x;
+      number = number;
+    }
+
+-- Fix 1, 4, 5. 1: a shot already fixed. 4: the curve choice is not 1 or 2. 5: no pixel has been measured.
+abbrev pub fixChecks : Bool → ℕ → ℕ → List Check
+fixChecks fixed choice pixels = fixed refuses 1 ∷ not (isChoice choice) refuses 4 ∷ eqb pixels 0 refuses 5 ∷ []
+
+-- An accepted fixing makes the curve of the choice from N and the cumulative counts. A refused one hands back the shot unchanged.
+unfoldable pub fixedWith : Shot → ℕ → Answer
+fixedWith x choice =
+    let number = firstOf (fixChecks (x .fixed) choice (x .pixels)) in
+    record {
+      shot =
+          cond (eqb number 0)
+          (record {
+            counts = x .counts;
+            pixels = x .pixels;
+            fixed = true;
+            curve = toneCurve (choiceOf choice) (x .pixels) (cumulative (x .counts));
+          })
+          x;
+      number = number;
+    }
+
+-- What a colouring brings besides the shot.
+pub record ColourRequest : Type 0 where
+  pub method : ℕ
+  pub source : List ℕ
+  pub destination : List ℕ
+
+-- What a call leaves: what it hands back, and what the lent destination then holds.
+pub record Outcome : Type 0 where
+  pub answer : Answer
+  pub bytes : List ℕ
+
+-- Colour 6, 7, 2, 8, from whether the shot is fixed, the method and the lengths of source and destination. 6: a shot not fixed.
+-- 7: the method is not 1 or 2. 2: the source's length is not a multiple of 3. 8: destination and source differ in length.
+abbrev pub colourChecks : Bool → ℕ → ℕ → ℕ → List Check
+colourChecks fixed method source destination =
+    not fixed refuses 6
+    ∷ not (isMethod method) refuses 7
+    ∷ not (isWhole source) refuses 2
+    ∷ not (eqb destination source) refuses 8
+    ∷ []
+
+-- An accepted colouring writes every source pixel, moved to the curve's entry for its sum. A refused one touches no byte. Both hand
+-- back the shot as it is.
+unfoldable pub coloured : Shot → ColourRequest → Outcome
+coloured x q =
+    let number = firstOf (colourChecks (x .fixed) (q .method) (length (q .source)) (length (q .destination))) in
+    record {
+      answer = record { shot = x; number = number };
+      bytes = cond (eqb number 0) (colouredStrip (methodOf (q .method)) (x .curve) (q .source)) (q .destination);
+    }

@@ -1,0 +1,201 @@
+// A shot: opened empty, measured strip by strip, fixed once, and then used to colour strips (document 01, "The ground covered").
+ghost use mathlib.Core.Path.{_≡_};
+ghost use mathlib.Core.Bool.{not};
+ghost use mathlib.Core.List.{[], _∷_};
+ghost use Prim.Native.Nat.{_+_, _≤_};
+ghost use Rattle.refusal.specs.Refusal.{_refuses_, firstOf};
+ghost use Rattle.pixel.specs.Strip.{pixelsOf};
+ghost use Rattle.shot.specs.Inner.{CountsFit};
+ghost use Rattle.shot.specs.Reachable.{Reachable};
+ghost use Rattle.shot.specs.Shot.{pixelLimit, withPixels, opened, measureChecks, measured, fixChecks, fixedWith, colourChecks, coloured};
+
+// At most so many pixels to a shot.
+const PIXEL_LIMIT: usize = 16777216;
+
+// A shot's state: how many of its pixels have each intensity, how many they are, and, once it is fixed, its tone curve. Nothing
+// reads the curve of a shot that is not fixed. The counts stay after fixing.
+pub struct Shot {
+    counts: [u32; 766],
+    pixels: u32,
+    fixed: bool,
+    curve: [u16; 766],
+}
+
+// What a call hands back: the next shot, and 0 or the refusal's number.
+pub struct Answer {
+    pub shot: Shot,
+    pub number: u32,
+}
+
+// The intensity of a pixel, with its range.
+fn intensity_of(r: u8, g: u8, b: u8) -> usize
+    ensures { λ s. ⌜ (s ≡ r + g + b) × (s ≤ 765) ⌝ }
+{
+    r as usize + g as usize + b as usize
+}
+
+// The counts with the strip's pixels added.
+fn count_strip(start: [u32; 766], strip: &[u8]) -> [u32; 766]
+    requires { ⌜ CountsFit start (now strip) ⌝ }
+    ensures { λ r. ⌜ r ≡ withPixels start (pixelsOf (now (strip .entry))) ⌝ }
+{
+    let mut counts = start;
+    let mut i: usize = 0;
+    while i < strip.len() {
+        let s = intensity_of(strip[i], strip[i + 1], strip[i + 2]);
+        counts[s] = counts[s] + 1;
+        i += 3;
+    }
+    counts
+}
+
+// Measure 1, 2, 3: 0, or the number of the first that applies.
+fn measure_refusal(fixed: bool, uneven: bool, over: bool) -> u32
+    ensures { λ r. ⌜ r ≡ firstOf (fixed refuses 1 ∷ uneven refuses 2 ∷ over refuses 3 ∷ []) ⌝ }
+{
+    if fixed {
+        return 1;
+    }
+    if uneven {
+        return 2;
+    }
+    if over {
+        return 3;
+    }
+    0
+}
+
+// The answer for measuring a strip of this length.
+fn measure_number(fixed: bool, pixels: u32, strip: usize) -> u32
+    requires { ⌜ pixels ≤ pixelLimit ⌝ }
+    ensures { λ r. ⌜ r ≡ firstOf (measureChecks fixed pixels strip) ⌝ }
+{
+    // the room left is compared, so that no sum can overflow
+    let room = PIXEL_LIMIT - (pixels as usize);
+    measure_refusal(fixed, strip % 3 != 0, room < strip / 3)
+}
+
+// Fix 1, 4, 5: 0, or the number of the first that applies.
+fn fix_refusal(fixed: bool, known: bool, empty: bool) -> u32
+    ensures { λ r. ⌜ r ≡ firstOf (fixed refuses 1 ∷ not known refuses 4 ∷ empty refuses 5 ∷ []) ⌝ }
+{
+    if fixed {
+        return 1;
+    }
+    if !known {
+        return 4;
+    }
+    if empty {
+        return 5;
+    }
+    0
+}
+
+// The answer for fixing by a choice.
+fn fix_number(fixed: bool, choice: u32, pixels: u32) -> u32
+    ensures { λ r. ⌜ r ≡ firstOf (fixChecks fixed choice pixels) ⌝ }
+{
+    fix_refusal(fixed, curve::is_choice(choice), pixels == 0)
+}
+
+// Colour 6, 7, 2, 8: 0, or the number of the first that applies.
+fn colour_refusal(fixed: bool, known: bool, uneven: bool, differ: bool) -> u32
+    ensures { λ r. ⌜ r ≡ firstOf (not fixed refuses 6 ∷ not known refuses 7 ∷ uneven refuses 2 ∷ differ refuses 8 ∷ []) ⌝ }
+{
+    if !fixed {
+        return 6;
+    }
+    if !known {
+        return 7;
+    }
+    if uneven {
+        return 2;
+    }
+    if differ {
+        return 8;
+    }
+    0
+}
+
+// The answer for colouring a source into a destination of these lengths.
+fn colour_number(fixed: bool, method: u32, source: usize, destination: usize) -> u32
+    ensures { λ r. ⌜ r ≡ firstOf (colourChecks fixed method source destination) ⌝ }
+{
+    colour_refusal(
+        fixed,
+        pixel::is_method(method),
+        source % 3 != 0,
+        destination != source,
+    )
+}
+
+impl Shot {
+    // A new shot, with no pixel and not fixed.
+    pub fn open() -> Shot
+        ensures { λ r. ⌜ r ≡ opened ⌝ }
+    {
+        Shot {
+            counts: [0; 766],
+            pixels: 0,
+            fixed: false,
+            curve: [0; 766],
+        }
+    }
+
+    // Adds the strip's pixels to the shot. Refused: 1, 2, 3.
+    pub fn measure(self, strip: &[u8]) -> Answer
+        requires { ⌜ Reachable self ⌝ }
+        ensures { λ r. ⌜ r ≡ measured self (now (strip .entry)) ⌝ }
+    {
+        let number = measure_number(self.fixed, self.pixels, strip.len());
+        if number != 0 {
+            return Answer { shot: self, number };
+        }
+        let start = self.counts;
+        let counts = count_strip(start, strip);
+        let curve = self.curve;
+        let shot = Shot {
+            counts,
+            pixels: self.pixels + (strip.len() / 3) as u32,
+            fixed: self.fixed,
+            curve,
+        };
+        Answer { shot, number }
+    }
+
+    // Makes the tone curve of all pixels measured. Refused: 1, 4, 5.
+    pub fn fix(self, choice: u32) -> Answer
+        requires { ⌜ Reachable self ⌝ }
+        ensures { λ r. ⌜ r ≡ fixedWith self choice ⌝ }
+    {
+        let number = fix_number(self.fixed, choice, self.pixels);
+        if number != 0 {
+            return Answer { shot: self, number };
+        }
+        let counts = self.counts;
+        let pixels = self.pixels;
+        let curve = curve::tone_curve(curve::choice_of(choice), pixels, &counts);
+        let shot = Shot {
+            counts,
+            pixels,
+            fixed: true,
+            curve,
+        };
+        Answer { shot, number }
+    }
+
+    // Colours the source into the destination by the shot's curve, and hands the shot back as it is. Refused: 6, 7, 2, 8.
+    pub fn colour(self, method: u32, source: &[u8], destination: &mut [u8]) -> Answer
+        requires { ⌜ Reachable self ⌝ }
+        ensures answer { λ r. ⌜ r ≡ coloured self (record { method = method; source = now (source .entry); destination = now (destination .entry) }) .answer ⌝ }
+        ensures written { λ _. ⌜ now (destination .exit) ≡ coloured self (record { method = method; source = now (source .entry); destination = now (destination .entry) }) .bytes ⌝ }
+    {
+        let number = colour_number(self.fixed, method, source.len(), destination.len());
+        if number != 0 {
+            return Answer { shot: self, number };
+        }
+        let curve = self.curve;
+        colouring::colour_strip(&curve, pixel::method_of(method), source, destination);
+        Answer { shot: self, number }
+    }
+}

@@ -16,7 +16,7 @@ use Rattle.pixel.proofs.Accurate.{moves-are-accurate}
 use Rattle.pixel.proofs.Strips.{pixel-in-range, intensity-in-range}
 use Rattle.curve.specs.Curve.{IsToneCurve}
 use Rattle.colouring.specs.Colouring.{colouredStrip}
-use Rattle.colouring.specs.Written.{Written, WrittenAccurate, colouredPixels, ColouredPixelsAreAccurate, OneCurveKeepsOrder}
+use Rattle.colouring.specs.Written.{Written, WrittenAccurate, WrittenExact, colouredPixels, ColouredPixelsAreExact, ColouredPixelsAreAccurate, OneCurveKeepsOrder}
 use Rattle.colouring.proofs.EachPixel.{each-pixel-at, each-pixel-length}
 
 -- a coloured strip is as long as its source
@@ -31,6 +31,11 @@ coloured-at : (method : Method) (curve source : List ℕ) (i : ℕ) → i < leng
     ≡ moved method (pixelAt source i) (at curve (intensity (pixelAt source i)))
 unfolding colouredStrip
 coloured-at method curve source i h = each-pixel-at (λ p. moved method p (at curve (intensity p))) source i h
+
+pub coloured-pixels-are-exact : ColouredPixelsAreExact
+coloured-pixels-are-exact method curve source w m =
+    let (i, inside, e) = tabulate-member _ (length source / 3) w m in
+    subst WrittenExact (sym e) (coloured-at method curve source i inside)
 
 -- a tone curve's entry for black is 0, and its entry for white is 765
 own-ends : (curve : List ℕ) → IsToneCurve curve → (p : Pixel) → OwnEnds p (at curve (intensity p))

@@ -5,7 +5,7 @@ use Prim.Native.Nat.{ℕ, _+_, _/_, _≤_}
 use lib.ListN.{length}
 use Rattle.tables.specs.Table.{tabulate, at, _among_}
 use Rattle.pixel.specs.Accuracy.{factor, PixelAccurate}
-use Rattle.pixel.specs.Move.{intensity}
+use Rattle.pixel.specs.Move.{intensity, moved}
 use Rattle.pixel.specs.Strip.{pixelAt, Bytes}
 use Rattle.pixel.specs.declared.Method.{Method}
 use Rattle.pixel.specs.declared.Pixel.{Pixel}
@@ -24,6 +24,10 @@ abbrev pub WrittenAccurate : Written → Type 0
 WrittenAccurate w =
     PixelAccurate (factor (w .method) (intensity (w .input)) (w .entry)) (w .entry) (w .input) (w .output)
 
+-- Demand 2 for a pixel written: it is the source pixel, moved to the entry by the method.
+abbrev pub WrittenExact : Written → Type 0
+WrittenExact w = w .output ≡ moved (w .method) (w .input) (w .entry)
+
 -- The pixels of a source that was coloured by a method and a curve, the destination then holding these bytes.
 abbrev pub pixelsWritten : Method → List ℕ → List ℕ → List ℕ → List Written
 pixelsWritten method curve source bytes =
@@ -37,9 +41,14 @@ pixelsWritten method curve source bytes =
     })
     (length source / 3)
 
--- The pixels that a colouring by a tone curve writes.
+-- The pixels that a colouring writes.
 abbrev pub colouredPixels : Method → List ℕ → List ℕ → List Written
 colouredPixels method curve source = pixelsWritten method curve source (colouredStrip method curve source)
+
+-- Claim: every pixel written is exact. Proved: proofs/Written.antt, `coloured-pixels-are-exact`.
+abbrev pub ColouredPixelsAreExact : Type 0
+ColouredPixelsAreExact =
+    (method : Method) (curve source : List ℕ) (w : Written) → w among colouredPixels method curve source → WrittenExact w
 
 -- Claim: every pixel written by a tone curve keeps the rules. Proved: proofs/Written.antt, `coloured-pixels-are-accurate`.
 abbrev pub ColouredPixelsAreAccurate : Type 0

@@ -1,7 +1,7 @@
 -- The cumulative histogram of 766 counts, one for each sum (document 01, "Measuring"; source 004, 3.1).
 use mathlib.Core.Path.{_≡_}
 use mathlib.Core.List.{List}
-use Prim.Native.Nat.{ℕ, zero, suc, _+_, _<_, _≤_}
+use Prim.Native.Nat.{ℕ, zero, suc, _+_, _≤_}
 use Rattle.tables.specs.Table.{at}
 
 -- The first n counts added up.

@@ -1,6 +1,6 @@
 -- Source 004, equations 5 and 14, in exact fractions. H_L is the number of pixels, H_l how many of them the intensity l reaches.
 use mathlib.Core.Path.{_≡_}
-use mathlib.Core.Bool.{Bool, false}
+use mathlib.Core.Bool.{false}
 use Prim.Native.Nat.{ℕ, _≤_, _<_}
 use lib.Dec.{T}
 use Rattle.rounding.specs.Fraction.{Fraction, whole, _over_, _⊕_, _⊖_, _⊗_, _⊘_, _≼_, nearest}

@@ -3,7 +3,6 @@ use mathlib.Core.Bool.{Bool}
 use mathlib.Core.List.{List, [], _∷_}
 use Prim.Native.Nat.{ℕ, _+_, _*_, _%_, _<_}
 use lib.Dec.{eqb}
-use lib.ListN.{length}
 use Rattle.tables.specs.Table.{at}
 use Rattle.pixel.specs.declared.Pixel.{Pixel}
 

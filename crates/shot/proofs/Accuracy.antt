@@ -1,22 +1,20 @@
 -- Demand 3: every list of calls, from a freshly opened shot.
 use mathlib.Core.Path.{_≡_, refl, sym, ap, _∙_, subst}
-use mathlib.Core.Bool.{Bool, true, false, cond}
 use mathlib.Core.List.{List, [], _∷_, _++_, append-assoc, append-nil, List·Memᴰ·head, List·Memᴰ·tail}
 use mathlib.Core.Logic.{_⊎_, inl, inr, ⊎-elim}
-use mathlib.Core.Option.{Option, some}
-use Prim.Native.Nat.{ℕ, suc}
+use mathlib.Core.Option.{some}
+use Prim.Native.Nat.{ℕ}
 use native.Mathlib.Omega.{arith}
 use lib.ListN.{length}
 use Rattle.tables.specs.Table.{_among_}
 use Rattle.colouring.specs.Written.{Written, colouredPixels, AtMostTwoBelow}
-use Rattle.colouring.proofs.Written.{coloured-pixels-are-accurate, one-curve-keeps-order}
-use Rattle.shot.specs.Accuracy.{requested, written, Accurate, CallsAreAccurate}
+use Rattle.colouring.proofs.Written.{coloured-pixels-are-exact, coloured-pixels-are-accurate, one-curve-keeps-order}
+use Rattle.shot.specs.Accuracy.{requested, written, CallsAreAccurate}
 use Rattle.shot.specs.Book.{Call, Call.opening, Call.measuring, Call.fixing, Call.colouring, Book}
 use Rattle.shot.specs.Reachable.{Reachable, Reachable.byOpening, Reachable.byMeasuring, Reachable.byFixing}
 use Rattle.shot.specs.Run.{step, Step, number, traceFrom, trace, Occurs, WellFormed}
 use Rattle.shot.specs.Shot.{Outcome, coloured}
 use Rattle.shot.specs.declared.Shot.{Shot}
-use Rattle.shot.specs.declared.Answer.{Answer}
 use Rattle.shot.proofs.Pixels.{step-size, step-untouched, ByBook, writtenIf, step-written}
 use Rattle.shot.proofs.Sound.{Sound, some-same, sound-opened, answers-agree, sound-step}
 use Rattle.shot.proofs.Steps.{Past, past-start, past-more}
@@ -127,6 +125,10 @@ accuracy calls ok =
           let did = good before t o .did in
           ap (λ (d : Outcome). d .bytes) did
           ∙ step-untouched (t .shot) (t .call) (λ e. refused (ap (λ (d : Outcome). d .answer .number) did ∙ e));
+      exact =
+          λ before t o w m.
+          let p = by-book before t (good before t o) w m in
+          coloured-pixels-are-exact (p .method) (p .curve) (p .source) w (p .member);
       rules =
           λ before t o w m.
           let p = by-book before t (good before t o) w m in

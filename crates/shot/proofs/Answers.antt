@@ -1,5 +1,5 @@
 -- What a call leaves, from the number that its checks gave.
-use mathlib.Core.Path.{_≡_, sym, _∙_}
+use mathlib.Core.Path.{_≡_, ap, sym, _∙_}
 use mathlib.Core.Bool.{cond}
 use mathlib.Core.List.{List}
 use Prim.Native.Nat.{ℕ}
@@ -9,9 +9,10 @@ use lib.ListN.{length}
 use Rattle.refusal.specs.Refusal.{firstOf}
 use Rattle.pixel.specs.Methods.{methodOf}
 use Rattle.colouring.specs.Colouring.{colouredStrip}
-use Rattle.shot.specs.Shot.{ColourRequest, Outcome, colourChecks, coloured}
+use Rattle.shot.specs.Shot.{ColourRequest, Outcome, colourChecks, carriedOut, coloured}
 use Rattle.shot.specs.declared.Shot.{Shot}
 use Rattle.shot.specs.declared.Answer.{Answer}
+use Rattle.shot.proofs.Pixels.{carried-untouched}
 
 -- The answer of a call that changes the shot where it is accepted: the shot x where the number is not 0, and else y.
 abbrev pub answered : ℕ → Shot → Shot → Answer
@@ -23,14 +24,22 @@ answer-refused n m x y e refused = rw (ne-eqb m 0 (λ z. refused (e ∙ z)), e)
 pub answer-accepted : (n m : ℕ) (x y z : Shot) → n ≡ m → n ≡ 0 → z ≡ y → record { shot = z; number = n } ≡ answered m y x
 answer-accepted n m x y z e zero same = rw (eq-eqb m 0 (sym e ∙ zero), e, same)
 
--- A colouring hands back the shot, and writes where it is accepted.
+-- A colouring with its checks' number.
 module _ (x : Shot) (q : ColourRequest) (n : ℕ)
     (e : n ≡ firstOf (colourChecks (x .fixed) (q .method) (length (q .source)) (length (q .destination)))) where
-  pub coloured-refused : (n ≡ 0 → ⊥) → (record { shot = x; number = n } ≡ coloured x q .answer) × (q .destination ≡ coloured x q .bytes)
+  carried-is : carriedOut n x q ≡ coloured x q
   unfolding coloured
-  coloured-refused refused = (rw e, sym (simp (ne-eqb _ 0 (λ z. refused (e ∙ z)))))
+  carried-is = ap (λ (number : ℕ). carriedOut number x q) e
+
+  -- hands back the shot, and leaves these bytes
+  coloured-is : (bytes : List ℕ) → bytes ≡ carriedOut n x q .bytes
+      → (record { shot = x; number = n } ≡ coloured x q .answer) × (bytes ≡ coloured x q .bytes)
+  coloured-is bytes same =
+      (ap (λ (o : Outcome). o .answer) carried-is, same ∙ ap (λ (o : Outcome). o .bytes) carried-is)
+
+  pub coloured-refused : (n ≡ 0 → ⊥) → (record { shot = x; number = n } ≡ coloured x q .answer) × (q .destination ≡ coloured x q .bytes)
+  coloured-refused refused = coloured-is (q .destination) (sym (carried-untouched n x q refused))
 
   pub coloured-accepted : (bytes : List ℕ) → n ≡ 0 → bytes ≡ colouredStrip (methodOf (q .method)) (x .curve) (q .source)
       → (record { shot = x; number = n } ≡ coloured x q .answer) × (bytes ≡ coloured x q .bytes)
-  unfolding coloured
-  coloured-accepted bytes zero same = (rw e, same ∙ sym (simp (eq-eqb _ 0 (sym e ∙ zero))))
+  coloured-accepted bytes zero same = coloured-is bytes (same ∙ sym (simp (eq-eqb n 0 zero)))

@@ -1,8 +1,8 @@
 -- A loop that adds a strip's pixels to the counts one after the other.
 use mathlib.Core.Path.{_≡_, refl, sym, ap, _∙_}
 use mathlib.Core.Bool.{Bool, true, false, cond}
-use mathlib.Core.List.{List, [], _∷_}
-use Prim.Native.Nat.{ℕ, suc, _+_, _/_, _%_, _≤_, _<_}
+use mathlib.Core.List.{List, _∷_}
+use Prim.Native.Nat.{ℕ, _+_, _/_, _%_, _≤_, _<_}
 use native.Mathlib.Omega.{arith}
 use borrow.Author.Tests.{eq-eqb, eqb-true, eqb-false}
 use lib.Dec.{eqb}
@@ -12,7 +12,6 @@ use Rattle.tables.specs.Table.{at}
 use Rattle.tables.proofs.Laws.{is-tabulate}
 use Rattle.pixel.specs.Move.{intensity}
 use Rattle.pixel.specs.Strip.{pixelsOf}
-use Rattle.pixel.specs.declared.Pixel.{Pixel}
 use Rattle.pixel.proofs.Strips.{length-pixels, pixelFrom, drop-pixel}
 use Rattle.shot.specs.Shot.{countOf, withPixels}
 use Rattle.shot.proofs.Counts.{countOf-le}

@@ -1,9 +1,10 @@
 pub mod Counts
+pub mod Counting
 pub mod Passed
 pub mod Sound
 pub mod Steps
 pub mod Pixels
-pub mod Accuracy
-pub mod Counting
-pub mod Premise
 pub mod Answers
+pub mod Premise
+pub mod Accuracy
+pub mod Witness

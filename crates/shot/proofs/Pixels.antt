@@ -1,9 +1,9 @@
 -- What one call leaves in the destination, and the pixels that it writes.
 use mathlib.Core.Path.{_≡_, refl, sym, ap, _∙_, subst}
 use mathlib.Core.Bool.{Bool, true, false, cond}
-use mathlib.Core.List.{List, [], _∷_, List·Memᴰ·not-nil}
+use mathlib.Core.List.{List, [], List·Memᴰ·not-nil}
 use mathlib.Core.Option.{Option, none, some}
-use Prim.Native.Nat.{ℕ, _/_}
+use Prim.Native.Nat.{ℕ}
 use native.Mathlib.Omega.{arith}
 use borrow.Author.Tests.{eqb-true, ne-eqb}
 use lib.Dec.{eqb}
@@ -19,49 +19,49 @@ use Rattle.colouring.proofs.Written.{coloured-length}
 use Rattle.shot.specs.Accuracy.{requested, entries}
 use Rattle.shot.specs.Book.{Call, Call.opening, Call.measuring, Call.fixing, Call.colouring, Book, hasCurve}
 use Rattle.shot.specs.Run.{step, WellFormed}
-use Rattle.shot.specs.Shot.{measured, fixedWith, ColourRequest, Outcome, coloured}
+use Rattle.shot.specs.Shot.{measured, fixedWith, ColourRequest, carriedOut, coloured}
 use Rattle.shot.specs.declared.Shot.{Shot}
-use Rattle.shot.specs.declared.Answer.{Answer}
 use Rattle.shot.proofs.Passed.{Colourable, colour-passed}
-use Rattle.shot.proofs.Sound.{Sound, no-curve}
+use Rattle.shot.proofs.Sound.{Sound}
 
--- what a colouring by the checks' number leaves
-module _ (x : Shot) (q : ColourRequest) where
-  abbrev answer : ℕ
-  answer = coloured x q .answer .number
+-- a colouring that is answered by this number passes its checks where the number is 0
+abbrev pub Passes : ℕ → Shot → ColourRequest → Type 0
+Passes number x q = number ≡ 0 → Colourable (x .fixed) (q .method) (length (q .source)) (length (q .destination))
 
-  accepted : answer ≡ 0 → Colourable (x .fixed) (q .method) (length (q .source)) (length (q .destination))
-  unfolding coloured
-  accepted e = colour-passed (x .fixed) (q .method) (length (q .source)) (length (q .destination)) e
+coloured-passes : (x : Shot) (q : ColourRequest) → Passes (coloured x q .answer .number) x q
+unfolding coloured
+coloured-passes x q e = colour-passed (x .fixed) (q .method) (length (q .source)) (length (q .destination)) e
 
-  bytes-are : coloured x q .bytes ≡ cond (eqb answer 0) (colouredStrip (methodOf (q .method)) (x .curve) (q .source)) (q .destination)
-  unfolding coloured
-  bytes-are = refl
+-- what a colouring leaves, whatever checks gave its number
+module _ (number : ℕ) (x : Shot) (q : ColourRequest) where
+  abbrev coloured-bytes : List ℕ
+  coloured-bytes = colouredStrip (methodOf (q .method)) (x .curve) (q .source)
 
-  coloured-size : length (coloured x q .bytes) ≡ length (q .destination)
-  coloured-size = rw bytes-are (go (eqb answer 0) refl)
+  pub carried-size : Passes number x q → length (carriedOut number x q .bytes) ≡ length (q .destination)
+  carried-size ok = go (eqb number 0) refl
     where
-      go : (t : Bool) → eqb answer 0 ≡ t
-          → length (cond t (colouredStrip (methodOf (q .method)) (x .curve) (q .source)) (q .destination)) ≡ length (q .destination)
+      go : (t : Bool) → eqb number 0 ≡ t → length (cond t coloured-bytes (q .destination)) ≡ length (q .destination)
       go true z =
-          let ok = accepted (eqb-true answer 0 z) in
-          coloured-length (methodOf (q .method)) (x .curve) (q .source) (ok .whole) ∙ sym (ok .same)
+          let passed = ok (eqb-true number 0 z) in
+          coloured-length (methodOf (q .method)) (x .curve) (q .source) (passed .whole) ∙ sym (passed .same)
       go false z = refl
 
-  coloured-untouched : (answer ≡ 0 → ⊥) → coloured x q .bytes ≡ q .destination
-  coloured-untouched refused = bytes-are ∙ simp (ne-eqb answer 0 refused)
+  pub carried-untouched : (number ≡ 0 → ⊥) → carriedOut number x q .bytes ≡ q .destination
+  carried-untouched refused = simp (ne-eqb number 0 refused)
 
 pub step-size : (x : Shot) (c : Call) → length (step x c .bytes) ≡ length (requested c .destination)
+unfolding coloured
 step-size x opening = refl
 step-size x (measuring strip) = refl
 step-size x (fixing choice) = refl
-step-size x (colouring q) = coloured-size x q
+step-size x (colouring q) = carried-size _ x q (coloured-passes x q)
 
 pub step-untouched : (x : Shot) (c : Call) → (step x c .answer .number ≡ 0 → ⊥) → step x c .bytes ≡ requested c .destination
+unfolding coloured
 step-untouched x opening refused = refl
 step-untouched x (measuring strip) refused = refl
 step-untouched x (fixing choice) refused = refl
-step-untouched x (colouring q) refused = coloured-untouched x q refused
+step-untouched x (colouring q) refused = carried-untouched _ x q refused
 
 -- a pixel that was written by the book's curve
 pub record ByBook (b : Book) (w : Written) : Type 0 where
@@ -91,38 +91,38 @@ none-asked number method b w m = absurd (go (eqb number 0) m)
     go true m = List·Memᴰ·not-nil m
     go false m = List·Memᴰ·not-nil m
 
-colouring-written : {x : Shot} {b : Book} → Sound x b → (q : ColourRequest) → Bytes (q .source)
-    → (w : Written) → w among writtenIf (coloured x q .answer .number) b q (coloured x q .bytes) → ByBook b w
-colouring-written {x} {b} h q bytes w m = go (eqb (answer x q) 0) refl (rw (bytes-are x q) at m)
+-- a colouring writes by the book's curve
+pub carried-written : (number : ℕ) {x : Shot} {b : Book} → Sound x b → (q : ColourRequest) → Passes number x q → Bytes (q .source)
+    → (w : Written) → w among writtenIf number b q (carriedOut number x q .bytes) → ByBook b w
+carried-written number {x} {b} h q ok bytes w m = go (eqb number 0) refl m
   where
-    go : (t : Bool) → eqb (answer x q) 0 ≡ t
+    go : (t : Bool) → eqb number 0 ≡ t
         → w
         among cond t
-        (pixelsWritten (methodOf (q .method)) (entries (b .curve)) (q .source)
-        (cond t (colouredStrip (methodOf (q .method)) (x .curve) (q .source)) (q .destination)))
+        (pixelsWritten (methodOf (q .method)) (entries (b .curve)) (q .source) (cond t (coloured-bytes number x q) (q .destination)))
         []
         → ByBook b w
     go true z m =
-        let ok = accepted x q (eqb-true (answer x q) 0 z) in
-        let (curve, is) = has-some (b .curve) (sym (h .represents .fixed) ∙ ok .isFixed) in
+        let (curve, is) = has-some (b .curve) (sym (h .represents .fixed) ∙ ok (eqb-true number 0 z) .isFixed) in
+        let method = methodOf (q .method) in
         record {
           curve = curve;
           isCurve = is;
           shape = h .curve curve is;
-          method = methodOf (q .method);
+          method = method;
           source = q .source;
           bytes = bytes;
           member =
-              subst (λ (l : List ℕ). w among pixelsWritten (methodOf (q .method)) curve (q .source) (colouredStrip (methodOf (q .method)) l (q .source)))
+              subst (λ (l : List ℕ). w among pixelsWritten method curve (q .source) (colouredStrip method l (q .source)))
               (h .represents .curve curve is)
-              (subst (λ (l : List ℕ). w among pixelsWritten (methodOf (q .method)) l (q .source) (colouredStrip (methodOf (q .method)) (x .curve) (q .source)))
-              (ap entries is) m);
+              (subst (λ (l : List ℕ). w among pixelsWritten method l (q .source) (coloured-bytes number x q)) (ap entries is) m);
         }
     go false z m = absurd (List·Memᴰ·not-nil m)
 
 pub step-written : {x : Shot} {b : Book} → Sound x b → (c : Call) → WellFormed c
     → (w : Written) → w among writtenIf (step x c .answer .number) b (requested c) (step x c .bytes) → ByBook b w
+unfolding coloured
 step-written h opening ok w m = none-asked 0 2 _ w m
 step-written {x} {b} h (measuring strip) ok w m = none-asked (measured x strip .number) 2 b w m
 step-written {x} {b} h (fixing choice) ok w m = none-asked (fixedWith x choice .number) 2 b w m
-step-written h (colouring q) ok w m = colouring-written h q ok w m
+step-written {x} {b} h (colouring q) ok w m = carried-written _ h q (coloured-passes x q) ok w m

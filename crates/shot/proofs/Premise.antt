@@ -1,26 +1,24 @@
 -- What the premise of a shot's calls gives: to the calls' own proofs, and to callers for the next call.
-use mathlib.Core.Path.{_≡_, refl, sym, ap, _∙_, subst}
+use mathlib.Core.Path.{_≡_, sym, _∙_, subst}
 use mathlib.Core.Bool.{true}
 use mathlib.Core.List.{List}
-use mathlib.Core.Option.{Option, some}
-use Prim.Native.Nat.{ℕ, _+_, _/_, _≤_, _<_}
+use mathlib.Core.Option.{some}
+use Prim.Native.Nat.{ℕ, _≤_, _<_}
 use native.Mathlib.Omega.{arith}
 use lib.ListN.{length}
-use Rattle.tables.specs.Table.{at}
 use Rattle.pixel.specs.Strip.{Bytes}
-use Rattle.curve.specs.Curve.{IsToneCurve}
 use Rattle.curve.specs.Inner.{HistogramOf}
 use Rattle.colouring.specs.Inner.{EntriesInRange}
 use Rattle.shot.specs.Book.{pixelsIn}
 use Rattle.shot.specs.Inner.{CountsFit}
 use Rattle.shot.specs.Reachable.{Reachable, Reachable.byOpening, Reachable.byMeasuring, Reachable.byFixing}
-use Rattle.shot.specs.Shot.{pixelLimit, opened, measured, fixedWith, ColourRequest, Outcome, coloured}
+use Rattle.shot.specs.Shot.{pixelLimit, opened, measured, fixedWith, ColourRequest, coloured}
 use Rattle.shot.specs.declared.Shot.{Shot}
 use Rattle.shot.specs.declared.Answer.{Answer}
 use Rattle.shot.proofs.Counts.{countOf-le, cumulative-counts, pixels-cumulative}
-use Rattle.shot.proofs.Passed.{Measurable, Fixable}
+use Rattle.shot.proofs.Passed.{Measurable}
 use Rattle.shot.proofs.Pixels.{has-some}
-use Rattle.shot.proofs.Sound.{Sound, reachable-sound}
+use Rattle.shot.proofs.Sound.{reachable-sound}
 
 module _ {x : Shot} (r : Reachable x) where
   -- a shot's pixels are within the limit

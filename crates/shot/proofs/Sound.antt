@@ -9,12 +9,9 @@ use native.Mathlib.Omega.{arith}
 use borrow.Author.Tests.{eqb-true}
 use lib.Dec.{eqb}
 use lib.ListN.{length, replicate, length-append}
-use Rattle.refusal.specs.Refusal.{firstOf}
 use Rattle.tables.specs.Table.{at, _among_}
 use Rattle.tables.proofs.Laws.{at-tabulate}
-use Rattle.pixel.specs.Move.{intensity}
 use Rattle.pixel.specs.Strip.{pixelsOf, Bytes}
-use Rattle.pixel.specs.declared.Pixel.{Pixel}
 use Rattle.pixel.proofs.Strips.{length-pixels, pixels-in-range, intensity-in-range}
 use Rattle.curve.specs.Choices.{choiceOf}
 use Rattle.curve.specs.Curve.{toneCurve, IsToneCurve}
@@ -24,9 +21,8 @@ use Rattle.shot.specs.Accuracy.{Represents}
 use Rattle.shot.specs.Book.{Call, Call.opening, Call.measuring, Call.fixing, Call.colouring, Book, emptyBook, pixelsIn, countUpTo, curveOf, expectedAnswer, bookStep}
 use Rattle.shot.specs.Reachable.{Reachable, Reachable.byOpening, Reachable.byMeasuring, Reachable.byFixing}
 use Rattle.shot.specs.Run.{step, WellFormed}
-use Rattle.shot.specs.Shot.{pixelLimit, countOf, withPixels, opened, measureChecks, measured, fixChecks, fixedWith, coloured, Outcome}
+use Rattle.shot.specs.Shot.{pixelLimit, countOf, withPixels, opened, measured, fixedWith, coloured}
 use Rattle.shot.specs.declared.Shot.{Shot}
-use Rattle.shot.specs.declared.Answer.{Answer}
 use Rattle.shot.proofs.Counts.{Counted, countOf-append, cumulative-counts, pixels-cumulative, pixelsIn-joined}
 use Rattle.shot.proofs.Passed.{Measurable, measure-passed, Fixable, fix-passed}
 

@@ -1,7 +1,7 @@
 -- Demand 3 (document 00): one claim about any list of opening, measuring, fixing and colouring calls, refused ones included, from a
 -- freshly opened shot, whatever they bring.
 use mathlib.Core.Path.{_≡_}
-use mathlib.Core.Bool.{Bool, _&&_, cond}
+use mathlib.Core.Bool.{_&&_, cond}
 use mathlib.Core.List.{List, [], _∷_, _++_}
 use mathlib.Core.Option.{Option, none, some}
 use Prim.Native.Nat.{ℕ, _≤_}
@@ -9,11 +9,11 @@ use lib.Dec.{eqb}
 use lib.ListN.{length}
 use Rattle.tables.specs.Table.{at, _among_}
 use Rattle.pixel.specs.Methods.{methodOf}
-use Rattle.colouring.specs.Written.{Written, WrittenAccurate, pixelsWritten, AtMostTwoBelow}
+use Rattle.colouring.specs.Written.{Written, WrittenExact, WrittenAccurate, pixelsWritten, AtMostTwoBelow}
 use Rattle.shot.specs.Book.{Call, Call.opening, Call.measuring, Call.fixing, Call.colouring, Book, pixelsIn, curveOf, hasCurve, expectedAnswer}
 use Rattle.shot.specs.Reachable.{Reachable}
 use Rattle.shot.specs.Run.{Step, number, trace, Occurs, WellFormed}
-use Rattle.shot.specs.Shot.{countOf, ColourRequest, Outcome}
+use Rattle.shot.specs.Shot.{countOf, ColourRequest}
 use Rattle.shot.specs.declared.Shot.{Shot}
 
 -- What the shot keeps is what the book holds.
@@ -85,6 +85,9 @@ pub record Accurate (calls : List Call) : Type 0 where
       → length (t .outcome .bytes) ≡ length (requested (t .call) .destination)
   pub untouched : (before : List Step) (t : Step) → Occurs (trace calls) before t
       → (number t ≡ 0 → ⊥) → t .outcome .bytes ≡ requested (t .call) .destination
+  -- every pixel written is the source pixel, moved to the entry (demand 2)
+  pub exact : (before : List Step) (t : Step) → Occurs (trace calls) before t
+      → (w : Written) → w among written t → WrittenExact w
   -- "every pixel written keeps four rules"
   pub rules : (before : List Step) (t : Step) → Occurs (trace calls) before t
       → (w : Written) → w among written t → WrittenAccurate w

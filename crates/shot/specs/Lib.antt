@@ -3,4 +3,5 @@ pub mod Reachable
 pub mod Book
 pub mod Run
 pub mod Accuracy
+pub mod Witness
 pub mod Inner

@@ -4,7 +4,6 @@ use Prim.Native.Nat.{ℕ}
 use Rattle.pixel.specs.Strip.{Bytes}
 use Rattle.shot.specs.Shot.{opened, measured, fixedWith}
 use Rattle.shot.specs.declared.Shot.{Shot}
-use Rattle.shot.specs.declared.Answer.{Answer}
 
 -- "Only opening, measuring and fixing make a shot; that the shot handed in came from these is the one premise a call may lean on."
 pub data Reachable : Shot → Type 0 where

@@ -99,12 +99,15 @@ colourChecks fixed method source destination =
     ∷ not (eqb destination source) refuses 8
     ∷ []
 
--- An accepted colouring writes every source pixel, moved to the curve's entry for its sum. A refused one touches no byte. Both hand
--- back the shot as it is.
-unfoldable pub coloured : Shot → ColourRequest → Outcome
-coloured x q =
-    let number = firstOf (colourChecks (x .fixed) (q .method) (length (q .source)) (length (q .destination))) in
+-- A colouring with its answer: an accepted one writes every source pixel, moved to the curve's entry for its sum; a refused one
+-- touches no byte. Both hand back the shot as it is.
+abbrev pub carriedOut : ℕ → Shot → ColourRequest → Outcome
+carriedOut number x q =
     record {
       answer = record { shot = x; number = number };
       bytes = cond (eqb number 0) (colouredStrip (methodOf (q .method)) (x .curve) (q .source)) (q .destination);
     }
+
+unfoldable pub coloured : Shot → ColourRequest → Outcome
+coloured x q =
+    carriedOut (firstOf (colourChecks (x .fixed) (q .method) (length (q .source)) (length (q .destination)))) x q

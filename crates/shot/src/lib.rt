@@ -76,13 +76,13 @@ fn measure_number(fixed: bool, pixels: u32, strip: usize) -> u32
 }
 
 // Fix 1, 4, 5: 0, or the number of the first that applies.
-fn fix_refusal(fixed: bool, known: bool, empty: bool) -> u32
-    ensures { λ r. ⌜ r ≡ firstOf (fixed refuses 1 ∷ not known refuses 4 ∷ empty refuses 5 ∷ []) ⌝ }
+fn fix_refusal(fixed: bool, valid: bool, empty: bool) -> u32
+    ensures { λ r. ⌜ r ≡ firstOf (fixed refuses 1 ∷ not valid refuses 4 ∷ empty refuses 5 ∷ []) ⌝ }
 {
     if fixed {
         return 1;
     }
-    if !known {
+    if !valid {
         return 4;
     }
     if empty {
@@ -99,8 +99,8 @@ fn fix_number(fixed: bool, choice: u32, pixels: u32) -> u32
 }
 
 // Colour 6, 7, 2, 8: 0, or the number of the first that applies.
-fn colour_refusal(fixed: bool, known: bool, uneven: bool, differ: bool) -> u32
-    ensures { λ r. ⌜ r ≡ firstOf (not fixed refuses 6 ∷ not known refuses 7 ∷ uneven refuses 2 ∷ differ refuses 8 ∷ []) ⌝ }
+fn colour_refusal(fixed: bool, known: bool, whole: bool, same: bool) -> u32
+    ensures { λ r. ⌜ r ≡ firstOf (not fixed refuses 6 ∷ not known refuses 7 ∷ not whole refuses 2 ∷ not same refuses 8 ∷ []) ⌝ }
 {
     if !fixed {
         return 6;
@@ -108,10 +108,10 @@ fn colour_refusal(fixed: bool, known: bool, uneven: bool, differ: bool) -> u32
     if !known {
         return 7;
     }
-    if uneven {
+    if !whole {
         return 2;
     }
-    if differ {
+    if !same {
         return 8;
     }
     0
@@ -124,8 +124,8 @@ fn colour_number(fixed: bool, method: u32, source: usize, destination: usize) ->
     colour_refusal(
         fixed,
         pixel::is_method(method),
-        source % 3 != 0,
-        destination != source,
+        source % 3 == 0,
+        destination == source,
     )
 }
 
@@ -191,11 +191,10 @@ impl Shot {
         ensures written { λ _. ⌜ now (destination .exit) ≡ coloured self (record { method = method; source = now (source .entry); destination = now (destination .entry) }) .bytes ⌝ }
     {
         let number = colour_number(self.fixed, method, source.len(), destination.len());
-        if number != 0 {
-            return Answer { shot: self, number };
+        if number == 0 {
+            let curve = self.curve;
+            colouring::colour_strip(&curve, pixel::method_of(method), source, destination);
         }
-        let curve = self.curve;
-        colouring::colour_strip(&curve, pixel::method_of(method), source, destination);
         Answer { shot: self, number }
     }
 }

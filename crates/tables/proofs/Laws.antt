@@ -1,6 +1,6 @@
 -- Laws of tables.
 use mathlib.Core.Path.{_≡_, refl, sym, ap₂, _∙_}
-use mathlib.Core.List.{List, [], _∷_, List·Memᴰ·not-nil, List·Memᴰ·cases-cons}
+use mathlib.Core.List.{List, _∷_, List·Memᴰ·not-nil, List·Memᴰ·cases-cons}
 use mathlib.Core.Logic.{⊎-elim}
 use Prim.Native.Nat.{ℕ, zero, suc, _<_, suc-le-suc, zero-le}
 use native.Mathlib.Nat.{not-suc-le-zero, le-of-suc-le-suc}

@@ -1,5 +1,5 @@
 -- `shot::colour_number` meets its contract.
-use mathlib.Core.Path.{_≡_, sym}
+use mathlib.Core.Path.{sym}
 use borrow.Author.Needs.{needs}
 use Rattle.shot.proofs.colour_number.Statement.{statement}
 use Rattle.shot.proofs.colour_number.Tie as tie

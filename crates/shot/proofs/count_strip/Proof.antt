@@ -1,8 +1,7 @@
 -- `shot::count_strip` meets its contract.
-use Prim.Native.Nat.{_+_, _-_}
+use Prim.Native.Nat.{_-_}
 use native.Mathlib.Omega.{arith}
 use borrow.Author.Needs.{needs}
-use denote.Ref.{now}
 use Rattle.pixel.proofs.Strips.{whole-means}
 use Rattle.shot.proofs.Counting.{Counting, counting-start, counting-room, counting-more, counting-end}
 use lib.ListN.{length}

@@ -1,5 +1,5 @@
 -- `shot::fix_number` meets its contract.
-use mathlib.Core.Path.{_≡_, sym}
+use mathlib.Core.Path.{sym}
 use borrow.Author.Needs.{needs}
 use Rattle.shot.proofs.fix_number.Statement.{statement}
 use Rattle.shot.proofs.fix_number.Tie as tie

@@ -1,15 +1,13 @@
 -- `shot::Shot::fix` meets its contract.
-use mathlib.Core.Path.{_≡_, ap, sym, _∙_}
+use mathlib.Core.Path.{ap, sym, _∙_}
 use mathlib.Core.Bool.{true}
 use mathlib.Core.List.{List}
 use Prim.Native.Nat.{ℕ}
 use borrow.Author.Needs.{needs}
-use denote.Ref.{now}
 use Rattle.curve.specs.Curve.{toneCurve}
 use Rattle.curve.specs.Histogram.{cumulative}
 use Rattle.curve.specs.declared.Choice.{Choice}
 use Rattle.shot.specs.Shot.{fixedWith}
-use Rattle.shot.specs.declared.Shot.{Shot}
 use Rattle.shot.proofs.Answers.{answer-refused, answer-accepted}
 use Rattle.shot.proofs.Passed.{Fixable, fix-passed}
 use Rattle.shot.proofs.Premise.{histogram-of}

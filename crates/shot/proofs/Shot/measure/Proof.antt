@@ -1,12 +1,11 @@
 -- `shot::Shot::measure` meets its contract.
-use mathlib.Core.Path.{_≡_, ap, sym, _∙_}
+use mathlib.Core.Path.{ap, sym, _∙_}
 use mathlib.Core.List.{List}
 use Prim.Native.Nat.{ℕ, _+_, _/_}
 use native.Mathlib.Omega.{arith}
 use denote.Ref.{now}
 use lib.ListN.{length}
 use Rattle.shot.specs.Shot.{measured}
-use Rattle.shot.specs.declared.Shot.{Shot}
 use Rattle.shot.proofs.Answers.{answer-refused, answer-accepted}
 use Rattle.shot.proofs.Passed.{Measurable, measure-passed}
 use Rattle.shot.proofs.Premise.{within-limit, counts-fit}

@@ -1,0 +1,59 @@
+-- The witness of demand 3's claim, by computation.
+use mathlib.Core.Path.{_≡_, refl, subst, sym}
+use mathlib.Core.Bool.{Bool, true, _&&_}
+use mathlib.Core.List.{List, [], _∷_, List·Memᴰ·not-nil, List·Memᴰ·cases-cons}
+use mathlib.Core.Logic.{⊎-elim}
+use Prim.Native.Nat.{ℕ, zero, suc}
+use native.Mathlib.Omega.{arith}
+use lib.Dec.{T, ltb, ltb→lt}
+use Rattle.rounding.specs.Near.{near}
+use Rattle.tables.specs.Table.{tabulate, _among_}
+use Rattle.targets.specs.Cube.{G}
+use Rattle.targets.proofs.EachBetween.{first-of-both, second-of-both}
+use Rattle.pixel.specs.Move.{moved, movedSample, naikMurthy, yangLee}
+use Rattle.pixel.specs.Strip.{Bytes}
+use Rattle.curve.specs.Curve.{shareOf, wholeOf, cubeEntry, equalisedEntry, withEnds, entry, toneCurve}
+use Rattle.curve.specs.Histogram.{sumOfFirst}
+use Rattle.curve.specs.Nearest.{nearer, nearestPlace}
+use Rattle.colouring.specs.Colouring.{colouredStrip}
+use Rattle.shot.specs.Book.{Call, Call.opening, Call.measuring, Call.fixing, Call.colouring, curveOf}
+use Rattle.shot.specs.Run.{WellFormed}
+use Rattle.shot.specs.Shot.{withPixels, opened, measured, fixedWith, coloured}
+use Rattle.shot.specs.Witness.{calls, WitnessRuns}
+
+-- a test for bytes, and for what a call brings
+abbrev areBytes : List ℕ → Bool
+areBytes [] = true
+areBytes (x ∷ rest) = ltb x 256 && areBytes rest
+
+bytes : (list : List ℕ) → T (areBytes list) → Bytes list
+bytes [] h i = omega arith
+bytes (x ∷ rest) h zero = ltb→lt x 256 (first-of-both (ltb x 256) (areBytes rest) h)
+bytes (x ∷ rest) h (suc i) = bytes rest (second-of-both (ltb x 256) (areBytes rest) h) i
+
+abbrev isWellFormed : Call → Bool
+isWellFormed opening = true
+isWellFormed (measuring strip) = areBytes strip
+isWellFormed (fixing choice) = true
+isWellFormed (colouring q) = areBytes (q .source)
+
+well-formed : (c : Call) → T (isWellFormed c) → WellFormed c
+well-formed opening h = tt
+well-formed (measuring strip) h = bytes strip h
+well-formed (fixing choice) h = tt
+well-formed (colouring q) h = bytes (q .source) h
+
+abbrev areWellFormed : List Call → Bool
+areWellFormed [] = true
+areWellFormed (c ∷ cs) = isWellFormed c && areWellFormed cs
+
+all-well-formed : (list : List Call) → T (areWellFormed list) → (c : Call) → c among list → WellFormed c
+all-well-formed [] h c m = absurd (List·Memᴰ·not-nil m)
+all-well-formed (d ∷ rest) h c m =
+    ⊎-elim (λ (e : c ≡ d). subst WellFormed (sym e) (well-formed d (first-of-both (isWellFormed d) (areWellFormed rest) h)))
+    (λ (n : c among rest). all-well-formed rest (second-of-both (isWellFormed d) (areWellFormed rest) h) c n)
+    (List·Memᴰ·cases-cons m)
+
+pub witness-runs : WitnessRuns
+unfolding calls opened measured fixedWith coloured withPixels tabulate colouredStrip moved movedSample naikMurthy yangLee near toneCurve entry withEnds cubeEntry equalisedEntry shareOf wholeOf sumOfFirst nearer nearestPlace G curveOf
+witness-runs = record { wellFormed = all-well-formed calls tt; numbers = refl; pixels = refl; bytes = refl }

@@ -1,0 +1,87 @@
+-- Demand 3's claim is not empty: a list of calls whose answers and written bytes are computed, with both choices, both methods on one
+-- shot, refused and accepted calls, and a reopening.
+use mathlib.Core.Path.{_≡_}
+use mathlib.Core.List.{List, [], _∷_, map}
+use Prim.Native.Nat.{ℕ}
+use lib.ListN.{length}
+use Rattle.tables.specs.Table.{_among_}
+use Rattle.shot.specs.Accuracy.{written}
+use Rattle.shot.specs.Book.{Call, Call.opening, Call.measuring, Call.fixing, Call.colouring}
+use Rattle.shot.specs.Run.{number, trace, WellFormed}
+
+-- Two pixels, of the sums 60 and 630.
+abbrev pub two : List ℕ
+two = 10 ∷ 20 ∷ 30 ∷ 200 ∷ 210 ∷ 220 ∷ []
+
+-- One pixel, of the sum 300.
+abbrev pub one : List ℕ
+one = 90 ∷ 100 ∷ 110 ∷ []
+
+-- Two pixels to be coloured, of the sums 60 and 300.
+abbrev pub source : List ℕ
+source = 10 ∷ 20 ∷ 30 ∷ 90 ∷ 100 ∷ 110 ∷ []
+
+-- Not whole pixels.
+abbrev pub odd : List ℕ
+odd = 1 ∷ 2 ∷ 3 ∷ 4 ∷ []
+
+abbrev pub colour : ℕ → List ℕ → List ℕ → Call
+colour method source destination = colouring (record { method = method; source = source; destination = destination })
+
+unfoldable pub calls : List Call
+calls =
+    colour 1 source two
+    ∷ fixing 1
+    ∷ measuring two
+    ∷ measuring odd
+    ∷ measuring one
+    ∷ fixing 3
+    ∷ fixing 1
+    ∷ measuring one
+    ∷ fixing 2
+    ∷ colour 1 source two
+    ∷ colour 2 source two
+    ∷ colour 3 source two
+    ∷ colour 2 odd two
+    ∷ colour 2 source one
+    ∷ colour 2 [] []
+    ∷ opening
+    ∷ colour 1 source two
+    ∷ measuring []
+    ∷ measuring two
+    ∷ measuring one
+    ∷ fixing 2
+    ∷ colour 1 source two
+    ∷ []
+
+-- Claim: so the list runs. Proved: proofs/Witness.antt, `witness-runs`.
+pub record WitnessRuns : Type 0 where
+  pub wellFormed : (c : Call) → c among calls → WellFormed c
+  pub numbers : map number (trace calls)
+      ≡ 6 ∷ 5 ∷ 0 ∷ 2 ∷ 0 ∷ 4 ∷ 0 ∷ 1 ∷ 1 ∷ 0 ∷ 0 ∷ 7 ∷ 2 ∷ 8 ∷ 0 ∷ 0 ∷ 6 ∷ 0 ∷ 0 ∷ 0 ∷ 0 ∷ 0 ∷ []
+  pub pixels : map (λ t. length (written t)) (trace calls)
+      ≡ 0 ∷ 0 ∷ 0 ∷ 0 ∷ 0 ∷ 0 ∷ 0 ∷ 0 ∷ 0 ∷ 2 ∷ 2 ∷ 0 ∷ 0 ∷ 0 ∷ 0 ∷ 0 ∷ 0 ∷ 0 ∷ 0 ∷ 0 ∷ 0 ∷ 2 ∷ []
+  pub bytes : map (λ t. t .outcome .bytes) (trace calls)
+      ≡ two
+      ∷ []
+      ∷ []
+      ∷ []
+      ∷ []
+      ∷ []
+      ∷ []
+      ∷ []
+      ∷ []
+      ∷ (102 ∷ 108 ∷ 114 ∷ 140 ∷ 147 ∷ 154 ∷ [])
+      ∷ (71 ∷ 108 ∷ 145 ∷ 140 ∷ 147 ∷ 154 ∷ [])
+      ∷ two
+      ∷ two
+      ∷ one
+      ∷ []
+      ∷ []
+      ∷ two
+      ∷ []
+      ∷ []
+      ∷ []
+      ∷ []
+      ∷ (78 ∷ 85 ∷ 92 ∷ 165 ∷ 170 ∷ 175 ∷ [])
+      ∷ []

@@ -9,7 +9,7 @@ use lib.ListN.{length}
 use Rattle.tables.specs.Table.{_among_}
 use Rattle.colouring.specs.Written.{Written, colouredPixels, AtMostTwoBelow}
 use Rattle.colouring.proofs.Written.{coloured-pixels-are-exact, coloured-pixels-are-accurate, one-curve-keeps-order}
-use Rattle.shot.specs.Accuracy.{requested, written, CallsAreAccurate}
+use Rattle.shot.specs.Accuracy.{requested, written, StepAccurate, CallsAreAccurate}
 use Rattle.shot.specs.Book.{Call, Call.opening, Call.measuring, Call.fixing, Call.colouring, Book}
 use Rattle.shot.specs.Reachable.{Reachable, Reachable.byOpening, Reachable.byMeasuring, Reachable.byFixing}
 use Rattle.shot.specs.Run.{step, Step, number, traceFrom, trace, Occurs, WellFormed}
@@ -104,35 +104,37 @@ below-two v w p q same =
     (subst (λ (l : List ℕ). w among colouredPixels (q .method) l (q .source))
     (sym (same (p .curve) (q .curve) (p .isCurve) (q .isCurve))) (q .member))
 
+step-accurate : (before : List Step) (t : Step) → Good before t → StepAccurate before t
+step-accurate before t g =
+    record {
+      premise = g .reachable;
+      represents = g .sound .represents;
+      strips = g .past .strips;
+      answer = answered ∙ answers-agree (g .sound .represents) (t .call);
+      curve = g .past .fixed;
+      size = ap (λ (o : Outcome). length (o .bytes)) (g .did) ∙ step-size (t .shot) (t .call);
+      untouched =
+          λ refused.
+          ap (λ (o : Outcome). o .bytes) (g .did) ∙ step-untouched (t .shot) (t .call) (λ e. refused (answered ∙ e));
+      exact =
+          λ w m.
+          let p = by-book before t g w m in
+          coloured-pixels-are-exact (p .method) (p .curve) (p .source) w (p .member);
+      rules =
+          λ w m.
+          let p = by-book before t g w m in
+          coloured-pixels-are-accurate (p .method) (p .curve) (p .source) (p .shape) (p .bytes) w (p .member);
+    }
+  where
+    answered : number t ≡ step (t .shot) (t .call) .answer .number
+    answered = ap (λ (o : Outcome). o .answer .number) (g .did)
+
 pub accuracy : CallsAreAccurate
 accuracy calls ok =
     let good : (before : List Step) (t : Step) → Occurs (trace calls) before t → Good before t =
     all-good calls ok byOpening sound-opened past-start in
     record {
-      premise = λ before t o. good before t o .reachable;
-      represents = λ before t o. good before t o .sound .represents;
-      strips = λ before t o. good before t o .past .strips;
-      answers =
-          λ before t o.
-          let g = good before t o in
-          ap (λ (d : Outcome). d .answer .number) (g .did) ∙ answers-agree (g .sound .represents) (t .call);
-      curves = λ before t o. good before t o .past .fixed;
-      size =
-          λ before t o.
-          ap (λ (d : Outcome). length (d .bytes)) (good before t o .did) ∙ step-size (t .shot) (t .call);
-      untouched =
-          λ before t o refused.
-          let did = good before t o .did in
-          ap (λ (d : Outcome). d .bytes) did
-          ∙ step-untouched (t .shot) (t .call) (λ e. refused (ap (λ (d : Outcome). d .answer .number) did ∙ e));
-      exact =
-          λ before t o w m.
-          let p = by-book before t (good before t o) w m in
-          coloured-pixels-are-exact (p .method) (p .curve) (p .source) w (p .member);
-      rules =
-          λ before t o w m.
-          let p = by-book before t (good before t o) w m in
-          coloured-pixels-are-accurate (p .method) (p .curve) (p .source) (p .shape) (p .bytes) w (p .member);
+      steps = λ before t o. step-accurate before t (good before t o);
       order =
           λ before before' t u o o' same v w mv mw.
           let g = good before t o in

@@ -16,7 +16,7 @@ use Rattle.curve.specs.Curve.{IsToneCurve}
 use Rattle.colouring.specs.Colouring.{colouredStrip}
 use Rattle.colouring.specs.Written.{Written, pixelsWritten, colouredPixels}
 use Rattle.colouring.proofs.Written.{coloured-length}
-use Rattle.shot.specs.Accuracy.{requested, entries}
+use Rattle.shot.specs.Accuracy.{noRequest, requested, entries}
 use Rattle.shot.specs.Book.{Call, Call.opening, Call.measuring, Call.fixing, Call.colouring, Book, hasCurve}
 use Rattle.shot.specs.Run.{step, WellFormed}
 use Rattle.shot.specs.Shot.{measured, fixedWith, ColourRequest, carriedOut, coloured}
@@ -83,11 +83,11 @@ abbrev pub writtenIf : ℕ → Book → ColourRequest → List ℕ → List Writ
 writtenIf number b q bytes = cond (eqb number 0) (pixelsWritten (methodOf (q .method)) (entries (b .curve)) (q .source) bytes) []
 
 -- a call that asks for no pixel writes none
-none-asked : (number method : ℕ) (b : Book) (w : Written) → w among writtenIf number b (record { method = method; source = []; destination = [] }) [] → ByBook b w
+none-asked : (number : ℕ) (b : Book) (w : Written) → w among writtenIf number b noRequest [] → ByBook b w
 unfolding tabulate
-none-asked number method b w m = absurd (go (eqb number 0) m)
+none-asked number b w m = absurd (go (eqb number 0) m)
   where
-    go : (t : Bool) → w among cond t (pixelsWritten (methodOf method) (entries (b .curve)) [] []) [] → ⊥
+    go : (t : Bool) → w among cond t (pixelsWritten (methodOf 1) (entries (b .curve)) [] []) [] → ⊥
     go true m = List·Memᴰ·not-nil m
     go false m = List·Memᴰ·not-nil m
 
@@ -122,7 +122,7 @@ carried-written number {x} {b} h q ok bytes w m = go (eqb number 0) refl m
 pub step-written : {x : Shot} {b : Book} → Sound x b → (c : Call) → WellFormed c
     → (w : Written) → w among writtenIf (step x c .answer .number) b (requested c) (step x c .bytes) → ByBook b w
 unfolding coloured
-step-written h opening ok w m = none-asked 0 2 _ w m
-step-written {x} {b} h (measuring strip) ok w m = none-asked (measured x strip .number) 2 b w m
-step-written {x} {b} h (fixing choice) ok w m = none-asked (fixedWith x choice .number) 2 b w m
+step-written h opening ok w m = none-asked 0 _ w m
+step-written {x} {b} h (measuring strip) ok w m = none-asked (measured x strip .number) b w m
+step-written {x} {b} h (fixing choice) ok w m = none-asked (fixedWith x choice .number) b w m
 step-written {x} {b} h (colouring q) ok w m = carried-written _ h q (coloured-passes x q) ok w m

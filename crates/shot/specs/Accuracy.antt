@@ -49,11 +49,15 @@ pub record FixedBy (n : ℕ) (steps : List Step) (curve : List ℕ) : Type 0 whe
   pub accepted : number fix ≡ 0
   pub made : curve ≡ curveOf choice (stripsMeasured n steps)
 
--- What a call asks to be coloured; a call that is no colouring asks for no pixel.
+-- A request for no pixel.
+abbrev pub noRequest : ColourRequest
+noRequest = record { method = 1; source = []; destination = [] }
+
+-- What a call asks to be coloured.
 abbrev pub requested : Call → ColourRequest
-requested opening = record { method = 2; source = []; destination = [] }
-requested (measuring strip) = record { method = 2; source = []; destination = [] }
-requested (fixing choice) = record { method = 2; source = []; destination = [] }
+requested opening = noRequest
+requested (measuring strip) = noRequest
+requested (fixing choice) = noRequest
 requested (colouring q) = q
 
 -- The book's curve; without one, no entry.
@@ -67,30 +71,29 @@ written t =
     let q = requested (t .call) in
     cond (eqb (number t) 0) (pixelsWritten (methodOf (q .method)) (entries (t .book .curve)) (q .source) (t .outcome .bytes)) []
 
-pub record Accurate (calls : List Call) : Type 0 where
-  -- the premise of the calls' contracts is met at each call
-  pub premise : (before : List Step) (t : Step) → Occurs (trace calls) before t → Reachable (t .shot)
+-- What holds at the step t, after the steps `before`.
+pub record StepAccurate (before : List Step) (t : Step) : Type 0 where
+  -- the premise of the call's contract is met
+  pub premise : Reachable (t .shot)
   -- the tally, N and the curve that the shot keeps are the book's
-  pub represents : (before : List Step) (t : Step) → Occurs (trace calls) before t → Represents (t .shot) (t .book)
+  pub represents : Represents (t .shot) (t .book)
   -- the book holds the strips of all accepted measurings since the last opening, in order
-  pub strips : (before : List Step) (t : Step) → Occurs (trace calls) before t
-      → t .book .strips ≡ stripsMeasured (t .openings) before
+  pub strips : t .book .strips ≡ stripsMeasured (t .openings) before
   -- "each call has been accepted, or refused by its number, exactly as document 01's book has it"
-  pub answers : (before : List Step) (t : Step) → Occurs (trace calls) before t → number t ≡ expectedAnswer (t .book) (t .call)
+  pub answer : number t ≡ expectedAnswer (t .book) (t .call)
   -- "the curve being that of all strips measured, in accepted calls, since its shot was opened"
-  pub curves : (before : List Step) (t : Step) → Occurs (trace calls) before t
-      → (curve : List ℕ) → t .book .curve ≡ some curve → FixedBy (t .openings) before curve
+  pub curve : (c : List ℕ) → t .book .curve ≡ some c → FixedBy (t .openings) before c
   -- a colouring leaves the destination as long as it was, and a refused one leaves every byte of it
-  pub size : (before : List Step) (t : Step) → Occurs (trace calls) before t
-      → length (t .outcome .bytes) ≡ length (requested (t .call) .destination)
-  pub untouched : (before : List Step) (t : Step) → Occurs (trace calls) before t
-      → (number t ≡ 0 → ⊥) → t .outcome .bytes ≡ requested (t .call) .destination
-  -- every pixel written is the source pixel, moved to the entry (demand 2)
-  pub exact : (before : List Step) (t : Step) → Occurs (trace calls) before t
-      → (w : Written) → w among written t → WrittenExact w
-  -- "every pixel written keeps four rules"
-  pub rules : (before : List Step) (t : Step) → Occurs (trace calls) before t
-      → (w : Written) → w among written t → WrittenAccurate w
+  pub size : length (t .outcome .bytes) ≡ length (requested (t .call) .destination)
+  pub untouched : (number t ≡ 0 → ⊥) → t .outcome .bytes ≡ requested (t .call) .destination
+  -- every pixel written is the source pixel, moved to the entry by the method (demand 2)
+  pub exact : (w : Written) → w among written t → WrittenExact w
+  -- "every pixel written keeps four rules": these three, and the order of two pixels below
+  pub rules : (w : Written) → w among written t → WrittenAccurate w
+
+-- What holds of a list of calls. (What it leaves is what a further call finds.)
+pub record Accurate (calls : List Call) : Type 0 where
+  pub steps : (before : List Step) (t : Step) → Occurs (trace calls) before t → StepAccurate before t
   -- "and of any two pixels of the same shot, whichever colourings and methods wrote them, the one whose input sum is no smaller has
   -- a sum at most two below the other's"
   pub order : (before before' : List Step) (t u : Step) → Occurs (trace calls) before t → Occurs (trace calls) before' u

@@ -1,10 +1,10 @@
 -- The shot represents the book after every call.
 use mathlib.Core.Path.{_≡_, refl, sym, ap, _∙_}
 use mathlib.Core.Bool.{Bool, true, false, cond}
-use mathlib.Core.List.{List, [], _∷_, _++_, List·Memᴰ·not-nil, List·Memᴰ·append-cases}
+use mathlib.Core.List.{List, List·Memᴰ·not-nil, List·Memᴰ·append-cases}
 use mathlib.Core.Logic.{⊎-elim}
 use mathlib.Core.Option.{Option, none, some}
-use Prim.Native.Nat.{ℕ, zero, suc, _+_, _/_, _≤_, _<_}
+use Prim.Native.Nat.{ℕ, zero, suc, _+_, _≤_, _<_}
 use native.Mathlib.Omega.{arith}
 use borrow.Author.Tests.{eqb-true}
 use lib.Dec.{eqb}
@@ -18,10 +18,10 @@ use Rattle.curve.specs.Curve.{toneCurve, IsToneCurve}
 use Rattle.curve.specs.Histogram.{cumulative}
 use Rattle.curve.proofs.Curve.{curves-are-tone-curves, tone-curve-same}
 use Rattle.shot.specs.Accuracy.{Represents}
-use Rattle.shot.specs.Book.{Call, Call.opening, Call.measuring, Call.fixing, Call.colouring, Book, emptyBook, pixelsIn, countUpTo, curveOf, expectedAnswer, bookStep}
+use Rattle.shot.specs.Book.{Call, Call.opening, Call.measuring, Call.fixing, Call.colouring, Book, emptyBook, pixelsIn, countUpTo, curveOf, expectedAnswer, entered, bookStep}
 use Rattle.shot.specs.Reachable.{Reachable, Reachable.byOpening, Reachable.byMeasuring, Reachable.byFixing}
 use Rattle.shot.specs.Run.{step, WellFormed}
-use Rattle.shot.specs.Shot.{pixelLimit, countOf, withPixels, opened, measured, fixedWith, coloured}
+use Rattle.shot.specs.Shot.{pixelLimit, countOf, withPixels, opened, withStrip, measured, withCurve, fixedWith, coloured}
 use Rattle.shot.specs.declared.Shot.{Shot}
 use Rattle.shot.proofs.Counts.{Counted, countOf-append, cumulative-counts, pixels-cumulative, pixelsIn-joined}
 use Rattle.shot.proofs.Passed.{Measurable, measure-passed, Fixable, fix-passed}
@@ -43,9 +43,11 @@ at-zeros (suc n) (suc s) = at-zeros n s
 pub no-curve : {c : List ℕ} → _≡_ {A = Option (List ℕ)} none (some c) → ⊥
 no-curve e = let bad : _≡_ {A = ℕ} 0 1 = cc in omega arith
 
+-- one curve is the other
 pub some-same : {c d : List ℕ} → some c ≡ some d → c ≡ d
 some-same e = cc
 
+-- an opened shot and an empty book
 pub sound-opened : Sound opened emptyBook
 unfolding opened
 sound-opened = record {
@@ -73,9 +75,7 @@ both {x} {y} {b} {d} n m e new old = rw e (go (eqb m 0) refl)
 
 -- an accepted strip joins the counts and the book
 joined : {x : Shot} {b : Book} → Sound x b → (strip : List ℕ) → Bytes strip → Measurable (x .fixed) (x .pixels) (length strip)
-    → Sound
-    (record { counts = withPixels (x .counts) (pixelsOf strip); pixels = x .pixels + length strip / 3; fixed = x .fixed; curve = x .curve })
-    (record { strips = b .strips ++ (strip ∷ []); curve = b .curve })
+    → Sound (withStrip x strip) (entered b (measuring strip))
 unfolding withPixels
 joined {x} {b} h strip bytes ok =
     let held = pixelsIn (b .strips) in
@@ -102,7 +102,7 @@ joined {x} {b} h strip bytes ok =
 
 -- an accepted fixing gives both the same curve
 fixed-alike : {x : Shot} {b : Book} → Sound x b → (choice : ℕ)
-    → toneCurve (choiceOf choice) (x .pixels) (cumulative (x .counts)) ≡ curveOf choice (b .strips)
+    → withCurve x choice .curve ≡ curveOf choice (b .strips)
 unfolding curveOf
 fixed-alike {x} {b} h choice =
     let held = pixelsIn (b .strips) in
@@ -110,16 +110,16 @@ fixed-alike {x} {b} h choice =
     (cumulative-counts (x .counts) held (h .represents .counts))
     ∙ ap (λ (n : ℕ). toneCurve (choiceOf choice) n (countUpTo held)) (h .represents .pixels)
 
+-- which is a tone curve
 curve-shape : {x : Shot} {b : Book} → Sound x b → (choice : ℕ) → 0 < x .pixels → IsToneCurve (curveOf choice (b .strips))
 unfolding curveOf
 curve-shape {x} {b} h choice positive =
     curves-are-tone-curves (choiceOf choice) (length (pixelsIn (b .strips))) (countUpTo (pixelsIn (b .strips)))
     (omega (arith, h .represents .pixels)) (pixels-cumulative (pixelsIn (b .strips)) (h .counted))
 
+-- and keeps all else
 fixed-sound : {x : Shot} {b : Book} → Sound x b → (choice : ℕ) → Fixable (x .fixed) choice (x .pixels)
-    → Sound
-    (record { counts = x .counts; pixels = x .pixels; fixed = true; curve = toneCurve (choiceOf choice) (x .pixels) (cumulative (x .counts)) })
-    (record { strips = b .strips; curve = some (curveOf choice (b .strips)) })
+    → Sound (withCurve x choice) (entered b (fixing choice))
 fixed-sound {x} {b} h choice ok = record {
   represents = record {
     counts = h .represents .counts;
@@ -132,10 +132,12 @@ fixed-sound {x} {b} h choice ok = record {
   curve = λ c e. rw (sym (some-same e)) (curve-shape h choice (ok .some));
 }
 
+-- a colouring leaves the book as it is, accepted or not
 same-book : (t : Bool) {x : Shot} {b : Book} → Sound x b → Sound x (cond t b b)
 same-book true h = h
 same-book false h = h
 
+-- each call leaves them so
 pub sound-step : {x : Shot} {b : Book} → Sound x b → (c : Call) → WellFormed c → Sound (step x c .answer .shot) (bookStep b c)
 unfolding measured fixedWith coloured
 sound-step h opening ok = sound-opened

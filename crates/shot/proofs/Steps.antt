@@ -10,31 +10,33 @@ use borrow.Author.Tests.{eqb-true, eq-eqb, ne-eqb}
 use lib.Dec.{eqb}
 use Rattle.tables.specs.Table.{_among_}
 use Rattle.shot.specs.Accuracy.{stripOf, stripsMeasured, FixedBy}
-use Rattle.shot.specs.Book.{Call, Call.opening, Call.measuring, Call.fixing, Call.colouring, Book, emptyBook, curveOf, expectedAnswer, bookStep}
+use Rattle.shot.specs.Book.{Call, Call.opening, Call.measuring, Call.fixing, Call.colouring, Book, emptyBook, curveOf, expectedAnswer, entered, bookStep}
 use Rattle.shot.specs.Run.{Step, number, isOpening}
 use Rattle.shot.proofs.Sound.{no-curve, some-same}
 
 true-false : true ≡ false → ⊥
 true-false e = let bad : _≡_ {A = ℕ} 0 1 = cc in omega arith
 
--- an accepted measuring's strip joins those held; nothing else changes them, but an opening
+-- an opening empties the book
+book-opened : (b : Book) (c : Call) → isOpening c ≡ true → bookStep b c ≡ emptyBook
+book-opened b opening o = refl
+book-opened b (measuring strip) o = absurd (true-false (sym o))
+book-opened b (fixing choice) o = absurd (true-false (sym o))
+book-opened b (colouring q) o = absurd (true-false (sym o))
+
+-- of the other calls an accepted measuring adds its strip, and nothing else changes those held
+entered-strips : (b : Book) (c : Call) → isOpening c ≡ false → entered b c .strips ≡ b .strips ++ stripOf c
+entered-strips b opening o = absurd (true-false o)
+entered-strips b (measuring strip) o = refl
+entered-strips b (fixing choice) o = simp append-nil
+entered-strips b (colouring q) o = simp append-nil
+
 book-strips : (b : Book) (c : Call) → isOpening c ≡ false
     → bookStep b c .strips ≡ b .strips ++ cond (eqb (expectedAnswer b c) 0) (stripOf c) []
-book-strips b opening o = absurd (true-false o)
-book-strips b (measuring strip) o = go (eqb (expectedAnswer b (measuring strip)) 0)
+book-strips b c o = go (eqb (expectedAnswer b c) 0)
   where
-    go : (t : Bool) → (cond t (record { strips = b .strips ++ (strip ∷ []); curve = b .curve }) b) .strips ≡ b .strips ++ cond t (strip ∷ []) []
-    go true = refl
-    go false = simp append-nil
-book-strips b (fixing choice) o = go (eqb (expectedAnswer b (fixing choice)) 0)
-  where
-    go : (t : Bool) → (cond t (record { strips = b .strips; curve = some (curveOf choice (b .strips)) }) b) .strips ≡ b .strips ++ cond t [] []
-    go true = simp append-nil
-    go false = simp append-nil
-book-strips b (colouring q) o = go (eqb (expectedAnswer b (colouring q)) 0)
-  where
-    go : (t : Bool) → (cond t b b) .strips ≡ b .strips ++ cond t [] []
-    go true = simp append-nil
+    go : (t : Bool) → (cond t (entered b c) b) .strips ≡ b .strips ++ cond t (stripOf c) []
+    go true = entered-strips b c o
     go false = simp append-nil
 
 -- a book with a curve stays as it is until the next opening
@@ -48,40 +50,29 @@ book-stays b (colouring q) curve o e = same (eqb (expectedAnswer b (colouring q)
     same true = refl
     same false = refl
 
--- a call that made the book's curve
-record Made (b : Book) (c : Call) (curve : List ℕ) : Type 0 where
+-- c is a fixing that makes this curve from the strips of the book b, and leaves these in the book d
+record Made (b d : Book) (c : Call) (curve : List ℕ) : Type 0 where
   choice : ℕ
   call : c ≡ fixing choice
-  accepted : expectedAnswer b c ≡ 0
-  strips : bookStep b c .strips ≡ b .strips
+  strips : d .strips ≡ b .strips
   made : curve ≡ curveOf choice (b .strips)
 
--- is an accepted fixing
-book-made : (b : Book) (c : Call) (curve : List ℕ) → b .curve ≡ none → bookStep b c .curve ≡ some curve → Made b c curve
-book-made b opening curve n e = absurd (no-curve e)
-book-made b (measuring strip) curve n e = absurd (no-curve (sym n ∙ go (eqb (expectedAnswer b (measuring strip)) 0) e))
+-- a call that brings a curve into the book is such a fixing
+entered-made : (b : Book) (c : Call) (curve : List ℕ) → b .curve ≡ none → entered b c .curve ≡ some curve → Made b (entered b c) c curve
+entered-made b opening curve n e = absurd (no-curve e)
+entered-made b (measuring strip) curve n e = absurd (no-curve (sym n ∙ e))
+entered-made b (fixing choice) curve n e = record { choice = choice; call = refl; strips = refl; made = sym (some-same e) }
+entered-made b (colouring q) curve n e = absurd (no-curve (sym n ∙ e))
+
+-- and accepted
+book-made : (b : Book) (c : Call) (curve : List ℕ) → b .curve ≡ none → bookStep b c .curve ≡ some curve
+    → (expectedAnswer b c ≡ 0) × Made b (bookStep b c) c curve
+book-made b c curve n = go (eqb (expectedAnswer b c) 0) refl
   where
-    go : (t : Bool) → (cond t (record { strips = b .strips ++ (strip ∷ []); curve = b .curve }) b) .curve ≡ some curve → b .curve ≡ some curve
-    go true e = e
-    go false e = e
-book-made b (fixing choice) curve n e = go (eqb (expectedAnswer b (fixing choice)) 0) refl e
-  where
-    go : (t : Bool) → eqb (expectedAnswer b (fixing choice)) 0 ≡ t
-        → (cond t (record { strips = b .strips; curve = some (curveOf choice (b .strips)) }) b) .curve ≡ some curve
-        → Made b (fixing choice) curve
-    go true z e = record {
-      choice = choice;
-      call = refl;
-      accepted = eqb-true (expectedAnswer b (fixing choice)) 0 z;
-      strips = simp z;
-      made = sym (some-same e);
-    }
+    go : (t : Bool) → eqb (expectedAnswer b c) 0 ≡ t → (cond t (entered b c) b) .curve ≡ some curve
+        → (expectedAnswer b c ≡ 0) × Made b (cond t (entered b c) b) c curve
+    go true z e = (eqb-true (expectedAnswer b c) 0 z, entered-made b c curve n e)
     go false z e = absurd (no-curve (sym n ∙ e))
-book-made b (colouring q) curve n e = absurd (no-curve (sym n ∙ go (eqb (expectedAnswer b (colouring q)) 0) e))
-  where
-    go : (t : Bool) → (cond t b b) .curve ≡ some curve → b .curve ≡ some curve
-    go true e = e
-    go false e = e
 
 -- strips measured in one run of steps and then another
 measured-append : (n : ℕ) (ts us : List Step) → stripsMeasured n (ts ++ us) ≡ stripsMeasured n ts ++ stripsMeasured n us
@@ -150,14 +141,14 @@ module _ {n : ℕ} {b : Book} {past : List Step} (h : Past n b past) (s : Step) 
 
     fixed-more : (had : Option (List ℕ)) → b .curve ≡ had → (curve : List ℕ) → next .curve ≡ some curve → FixedBy n more curve
     fixed-more none none-yet curve e =
-        let m = book-made b (s .call) curve none-yet e in
+        let (accepted, m) = book-made b (s .call) curve none-yet e in
         record {
           fix = s;
           member = Memᴰ·append-right past (List·Memᴰ·head refl);
           sameShot = first;
           choice = m .choice;
           call = m .call;
-          accepted = answer ∙ m .accepted;
+          accepted = answer ∙ accepted;
           made = m .made ∙ ap (curveOf (m .choice)) (sym (m .strips) ∙ strips-more);
         }
     fixed-more (some old) has curve e =
@@ -185,10 +176,8 @@ module _ {n : ℕ} {b : Book} {past : List Step} (h : Past n b past) (s : Step) 
     }
 
   pub past-more : Past (cond (isOpening (s .call)) (suc n) n) (bookStep b (s .call)) more
-  past-more = go (s .call) refl
+  past-more = go (isOpening (s .call)) refl
     where
-      go : (c : Call) → s .call ≡ c → Past (cond (isOpening c) (suc n) n) (bookStep b c) more
-      go opening e = past-opening
-      go (measuring strip) e = subst (λ (c : Call). Past n (bookStep b c) more) e (past-within (ap isOpening e))
-      go (fixing choice) e = subst (λ (c : Call). Past n (bookStep b c) more) e (past-within (ap isOpening e))
-      go (colouring q) e = subst (λ (c : Call). Past n (bookStep b c) more) e (past-within (ap isOpening e))
+      go : (o : Bool) → isOpening (s .call) ≡ o → Past (cond o (suc n) n) (bookStep b (s .call)) more
+      go true o = subst (λ (d : Book). Past (suc n) d more) (sym (book-opened b (s .call) o)) past-opening
+      go false o = past-within o

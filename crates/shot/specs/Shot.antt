@@ -40,43 +40,41 @@ abbrev pub measureChecks : Bool → ℕ → ℕ → List Check
 measureChecks fixed pixels strip =
     fixed refuses 1 ∷ not (isWhole strip) refuses 2 ∷ ltb pixelLimit (pixels + strip / 3) refuses 3 ∷ []
 
--- Each accepted strip adds its pixels to the counts and to N. A refused measure hands back the shot unchanged.
+-- Each accepted strip adds its pixels to the counts and to N.
+abbrev pub withStrip : Shot → List ℕ → Shot
+withStrip x strip =
+    record {
+      counts = withPixels (x .counts) (pixelsOf strip);
+      pixels = x .pixels + length strip / 3;
+      fixed = x .fixed;
+      curve = x .curve;
+    }
+
+-- A refused measure hands back the shot unchanged.
 unfoldable pub measured : Shot → List ℕ → Answer
 measured x strip =
     let number = firstOf (measureChecks (x .fixed) (x .pixels) (length strip)) in
-    record {
-      shot =
-          cond (eqb number 0)
-          (record {
-            counts = withPixels (x .counts) (pixelsOf strip);
-            pixels = x .pixels + length strip / 3;
-            fixed = x .fixed;
-            curve = x .curve;
-          })
-          x;
-      number = number;
-    }
+    record { shot = cond (eqb number 0) (withStrip x strip) x; number = number }
 
 -- Fix 1, 4, 5. 1: a shot already fixed. 4: the curve choice is not 1 or 2. 5: no pixel has been measured.
 abbrev pub fixChecks : Bool → ℕ → ℕ → List Check
 fixChecks fixed choice pixels = fixed refuses 1 ∷ not (isChoice choice) refuses 4 ∷ eqb pixels 0 refuses 5 ∷ []
 
--- An accepted fixing makes the curve of the choice from N and the cumulative counts. A refused one hands back the shot unchanged.
+-- An accepted fixing makes the curve of the choice, from N and the cumulative counts.
+abbrev pub withCurve : Shot → ℕ → Shot
+withCurve x choice =
+    record {
+      counts = x .counts;
+      pixels = x .pixels;
+      fixed = true;
+      curve = toneCurve (choiceOf choice) (x .pixels) (cumulative (x .counts));
+    }
+
+-- A refused fix hands back the shot unchanged.
 unfoldable pub fixedWith : Shot → ℕ → Answer
 fixedWith x choice =
     let number = firstOf (fixChecks (x .fixed) choice (x .pixels)) in
-    record {
-      shot =
-          cond (eqb number 0)
-          (record {
-            counts = x .counts;
-            pixels = x .pixels;
-            fixed = true;
-            curve = toneCurve (choiceOf choice) (x .pixels) (cumulative (x .counts));
-          })
-          x;
-      number = number;
-    }
+    record { shot = cond (eqb number 0) (withCurve x choice) x; number = number }
 
 -- What a colouring brings besides the shot.
 pub record ColourRequest : Type 0 where

@@ -9,17 +9,17 @@ use lib.ListN.{length}
 use Rattle.tables.specs.Table.{_among_}
 use Rattle.colouring.specs.Written.{Written, colouredPixels, AtMostTwoBelow}
 use Rattle.colouring.proofs.Written.{coloured-pixels-are-exact, coloured-pixels-are-accurate, one-curve-keeps-order}
-use Rattle.shot.specs.Accuracy.{requested, written, StepAccurate, CallsAreAccurate}
+use Rattle.shot.specs.Accuracy.{requested, writtenFor, written, StepAccurate, CallsAreAccurate}
 use Rattle.shot.specs.Book.{Call, Call.opening, Call.measuring, Call.fixing, Call.colouring, Book}
 use Rattle.shot.specs.Reachable.{Reachable, Reachable.byOpening, Reachable.byMeasuring, Reachable.byFixing}
 use Rattle.shot.specs.Run.{step, Step, number, traceFrom, trace, Occurs, WellFormed}
 use Rattle.shot.specs.Shot.{Outcome, coloured}
 use Rattle.shot.specs.declared.Shot.{Shot}
-use Rattle.shot.proofs.Pixels.{step-size, step-untouched, ByBook, writtenIf, step-written}
+use Rattle.shot.proofs.Pixels.{step-size, step-untouched, ByBook, step-written}
 use Rattle.shot.proofs.Sound.{Sound, some-same, sound-opened, answers-agree, sound-step}
 use Rattle.shot.proofs.Steps.{Past, past-start, past-more}
 
--- the first step of a list, and the others
+-- what stands first in equal lists, and what follows it
 cons-head : {A : Type 0} {a b : A} {l k : List A} → a ∷ l ≡ b ∷ k → a ≡ b
 cons-head e = cc
 
@@ -27,12 +27,14 @@ cons-tail : {A : Type 0} {a b : A} {l k : List A} → a ∷ l ≡ b ∷ k → l 
 cons-tail e = cc
 
 nil-cons : {A : Type 0} {a : A} {l : List A} → [] ≡ a ∷ l → ⊥
-nil-cons e = let bad : _≡_ {A = ℕ} 0 1 = cc in omega arith
+nil-cons e = omega (arith, ap length e)
 
+-- an empty list has no step
 no-step : (before : List Step) (t : Step) → Occurs [] before t → ⊥
 no-step [] t o = nil-cons (o .split)
 no-step (u ∷ before) t o = nil-cons (o .split)
 
+-- a step after the first is a step of the rest
 rest : {s u t : Step} {steps before : List Step} → Occurs (s ∷ steps) (u ∷ before) t → Occurs steps before t
 rest o = record { after = o .after; split = cons-tail (o .split) }
 
@@ -52,6 +54,7 @@ record Good (before : List Step) (t : Step) : Type 0 where
   did : t .outcome ≡ step (t .shot) (t .call)
   brings : WellFormed (t .call)
 
+-- it holds at every step
 all-good : (calls : List Call) → ((c : Call) → c among calls → WellFormed c)
     → {n : ℕ} {x : Shot} {b : Book} {past : List Step} → Reachable x → Sound x b → Past n b past
     → (before : List Step) (t : Step) → Occurs (traceFrom n x b calls) before t → Good (past ++ before) t
@@ -83,7 +86,7 @@ in-order (v ∷ before) (v' ∷ before') t u o o' =
 by-book : (before : List Step) (t : Step) → Good before t → (w : Written) → w among written t → ByBook (t .book) w
 by-book before t g w m =
     step-written (g .sound) (t .call) (g .brings) w
-    (subst (λ (o : Outcome). w among writtenIf (o .answer .number) (t .book) (requested (t .call)) (o .bytes)) (g .did) m)
+    (subst (λ (o : Outcome). w among writtenFor (o .answer .number) (t .book) (requested (t .call)) (o .bytes)) (g .did) m)
 
 -- steps of one shot that both have a curve have the same one
 one-curve : (before before' : List Step) (t u : Step) → Good before t → Good before' u → t .openings ≡ u .openings
@@ -97,6 +100,7 @@ one-curve before before' t u g h same order c d ec ed =
     k)
     order
 
+-- two pixels written by one curve
 below-two : (v w : Written) {b d : Book} → ByBook b v → ByBook d w
     → ((c k : List ℕ) → b .curve ≡ some c → d .curve ≡ some k → c ≡ k) → AtMostTwoBelow v w
 below-two v w p q same =
@@ -104,6 +108,7 @@ below-two v w p q same =
     (subst (λ (l : List ℕ). w among colouredPixels (q .method) l (q .source))
     (sym (same (p .curve) (q .curve) (p .isCurve) (q .isCurve))) (q .member))
 
+-- what follows for each step
 step-accurate : (before : List Step) (t : Step) → Good before t → StepAccurate before t
 step-accurate before t g =
     record {

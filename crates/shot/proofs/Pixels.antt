@@ -4,11 +4,11 @@ use mathlib.Core.Bool.{Bool, true, false, cond}
 use mathlib.Core.List.{List, [], List·Memᴰ·not-nil}
 use mathlib.Core.Option.{Option, none, some}
 use Prim.Native.Nat.{ℕ}
-use native.Mathlib.Omega.{arith}
 use borrow.Author.Tests.{eqb-true, ne-eqb}
 use lib.Dec.{eqb}
 use lib.ListN.{length}
 use Rattle.tables.specs.Table.{tabulate, _among_}
+use Rattle.tables.proofs.Cases.{true-false}
 use Rattle.pixel.specs.Methods.{methodOf}
 use Rattle.pixel.specs.Strip.{Bytes}
 use Rattle.pixel.specs.declared.Method.{Method}
@@ -16,7 +16,7 @@ use Rattle.curve.specs.Curve.{IsToneCurve}
 use Rattle.colouring.specs.Colouring.{colouredStrip}
 use Rattle.colouring.specs.Written.{Written, pixelsWritten, colouredPixels}
 use Rattle.colouring.proofs.Written.{coloured-length}
-use Rattle.shot.specs.Accuracy.{noRequest, requested, entries}
+use Rattle.shot.specs.Accuracy.{noRequest, requested, entries, writtenFor}
 use Rattle.shot.specs.Book.{Call, Call.opening, Call.measuring, Call.fixing, Call.colouring, Book, hasCurve}
 use Rattle.shot.specs.Run.{step, WellFormed}
 use Rattle.shot.specs.Shot.{measured, fixedWith, ColourRequest, carriedOut, coloured}
@@ -28,15 +28,18 @@ use Rattle.shot.proofs.Sound.{Sound}
 abbrev pub Passes : ℕ → Shot → ColourRequest → Type 0
 Passes number x q = number ≡ 0 → Colourable (x .fixed) (q .method) (length (q .source)) (length (q .destination))
 
+-- colouring's own checks
 coloured-passes : (x : Shot) (q : ColourRequest) → Passes (coloured x q .answer .number) x q
 unfolding coloured
 coloured-passes x q e = colour-passed (x .fixed) (q .method) (length (q .source)) (length (q .destination)) e
 
 -- what a colouring leaves, whatever checks gave its number
 module _ (number : ℕ) (x : Shot) (q : ColourRequest) where
+  -- the source, coloured
   abbrev coloured-bytes : List ℕ
   coloured-bytes = colouredStrip (methodOf (q .method)) (x .curve) (q .source)
 
+  -- the destination keeps its length
   pub carried-size : Passes number x q → length (carriedOut number x q .bytes) ≡ length (q .destination)
   carried-size ok = go (eqb number 0) refl
     where
@@ -46,9 +49,11 @@ module _ (number : ℕ) (x : Shot) (q : ColourRequest) where
           coloured-length (methodOf (q .method)) (x .curve) (q .source) (passed .whole) ∙ sym (passed .same)
       go false z = refl
 
+  -- and, if refused, every byte
   pub carried-untouched : (number ≡ 0 → ⊥) → carriedOut number x q .bytes ≡ q .destination
   carried-untouched refused = simp (ne-eqb number 0 refused)
 
+-- the same of each call; a call that is no colouring has no destination
 pub step-size : (x : Shot) (c : Call) → length (step x c .bytes) ≡ length (requested c .destination)
 unfolding coloured
 step-size x opening = refl
@@ -75,15 +80,11 @@ pub record ByBook (b : Book) (w : Written) : Type 0 where
 
 -- a fixed shot's book has a curve
 pub has-some : (o : Option (List ℕ)) → hasCurve o ≡ true → (curve : List ℕ) × (o ≡ some curve)
-has-some none e = absurd (let bad : _≡_ {A = ℕ} 0 1 = cc in omega arith)
+has-some none e = absurd (true-false (sym e))
 has-some (some curve) e = (curve, refl)
 
--- the pixels that are written when a step leaves these bytes
-abbrev pub writtenIf : ℕ → Book → ColourRequest → List ℕ → List Written
-writtenIf number b q bytes = cond (eqb number 0) (pixelsWritten (methodOf (q .method)) (entries (b .curve)) (q .source) bytes) []
-
 -- a call that asks for no pixel writes none
-none-asked : (number : ℕ) (b : Book) (w : Written) → w among writtenIf number b noRequest [] → ByBook b w
+none-asked : (number : ℕ) (b : Book) (w : Written) → w among writtenFor number b noRequest [] → ByBook b w
 unfolding tabulate
 none-asked number b w m = absurd (go (eqb number 0) m)
   where
@@ -93,7 +94,7 @@ none-asked number b w m = absurd (go (eqb number 0) m)
 
 -- a colouring writes by the book's curve
 pub carried-written : (number : ℕ) {x : Shot} {b : Book} → Sound x b → (q : ColourRequest) → Passes number x q → Bytes (q .source)
-    → (w : Written) → w among writtenIf number b q (carriedOut number x q .bytes) → ByBook b w
+    → (w : Written) → w among writtenFor number b q (carriedOut number x q .bytes) → ByBook b w
 carried-written number {x} {b} h q ok bytes w m = go (eqb number 0) refl m
   where
     go : (t : Bool) → eqb number 0 ≡ t
@@ -119,8 +120,9 @@ carried-written number {x} {b} h q ok bytes w m = go (eqb number 0) refl m
         }
     go false z m = absurd (List·Memᴰ·not-nil m)
 
+-- each call writes by the book's curve
 pub step-written : {x : Shot} {b : Book} → Sound x b → (c : Call) → WellFormed c
-    → (w : Written) → w among writtenIf (step x c .answer .number) b (requested c) (step x c .bytes) → ByBook b w
+    → (w : Written) → w among writtenFor (step x c .answer .number) b (requested c) (step x c .bytes) → ByBook b w
 unfolding coloured
 step-written h opening ok w m = none-asked 0 _ w m
 step-written {x} {b} h (measuring strip) ok w m = none-asked (measured x strip .number) b w m

@@ -10,6 +10,7 @@ use borrow.Author.Tests.{eqb-true}
 use lib.Dec.{eqb}
 use lib.ListN.{length, replicate, length-append}
 use Rattle.tables.specs.Table.{at, _among_}
+use Rattle.tables.proofs.Cases.{true-false}
 use Rattle.tables.proofs.Laws.{at-tabulate}
 use Rattle.pixel.specs.Strip.{pixelsOf, Bytes}
 use Rattle.pixel.proofs.Strips.{length-pixels, pixels-in-range, intensity-in-range}
@@ -18,7 +19,7 @@ use Rattle.curve.specs.Curve.{toneCurve, IsToneCurve}
 use Rattle.curve.specs.Histogram.{cumulative}
 use Rattle.curve.proofs.Curve.{curves-are-tone-curves, tone-curve-same}
 use Rattle.shot.specs.Accuracy.{Represents}
-use Rattle.shot.specs.Book.{Call, Call.opening, Call.measuring, Call.fixing, Call.colouring, Book, emptyBook, pixelsIn, countUpTo, curveOf, expectedAnswer, entered, bookStep}
+use Rattle.shot.specs.Book.{Call, Call.opening, Call.measuring, Call.fixing, Call.colouring, Book, emptyBook, pixelsIn, countUpTo, curveOf, hasCurve, expectedAnswer, entered, bookStep}
 use Rattle.shot.specs.Reachable.{Reachable, Reachable.byOpening, Reachable.byMeasuring, Reachable.byFixing}
 use Rattle.shot.specs.Run.{step, WellFormed}
 use Rattle.shot.specs.Shot.{pixelLimit, countOf, withPixels, opened, withStrip, measured, withCurve, fixedWith, coloured}
@@ -41,7 +42,7 @@ at-zeros (suc n) (suc s) = at-zeros n s
 
 -- no curve is not some curve
 pub no-curve : {c : List ℕ} → _≡_ {A = Option (List ℕ)} none (some c) → ⊥
-no-curve e = let bad : _≡_ {A = ℕ} 0 1 = cc in omega arith
+no-curve e = true-false (sym (ap hasCurve e))
 
 -- one curve is the other
 pub some-same : {c d : List ℕ} → some c ≡ some d → c ≡ d

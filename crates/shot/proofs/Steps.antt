@@ -9,13 +9,11 @@ use native.Mathlib.Omega.{arith}
 use borrow.Author.Tests.{eqb-true, eq-eqb, ne-eqb}
 use lib.Dec.{eqb}
 use Rattle.tables.specs.Table.{_among_}
+use Rattle.tables.proofs.Cases.{true-false}
 use Rattle.shot.specs.Accuracy.{stripOf, stripsMeasured, FixedBy}
 use Rattle.shot.specs.Book.{Call, Call.opening, Call.measuring, Call.fixing, Call.colouring, Book, emptyBook, curveOf, expectedAnswer, entered, bookStep}
 use Rattle.shot.specs.Run.{Step, number, isOpening}
 use Rattle.shot.proofs.Sound.{no-curve, some-same}
-
-true-false : true ≡ false → ⊥
-true-false e = let bad : _≡_ {A = ℕ} 0 1 = cc in omega arith
 
 -- an opening empties the book
 book-opened : (b : Book) (c : Call) → isOpening c ≡ true → bookStep b c ≡ emptyBook
@@ -31,6 +29,7 @@ entered-strips b (measuring strip) o = refl
 entered-strips b (fixing choice) o = simp append-nil
 entered-strips b (colouring q) o = simp append-nil
 
+-- and a refused one adds none
 book-strips : (b : Book) (c : Call) → isOpening c ≡ false
     → bookStep b c .strips ≡ b .strips ++ cond (eqb (expectedAnswer b c) 0) (stripOf c) []
 book-strips b c o = go (eqb (expectedAnswer b c) 0)
@@ -96,6 +95,7 @@ pub record Past (n : ℕ) (b : Book) (past : List Step) : Type 0 where
   -- a curve of the same shot is still the book's
   pub kept : (u : Step) → u among past → u .openings ≡ n → (curve : List ℕ) → u .book .curve ≡ some curve → b .curve ≡ some curve
 
+-- before the first call
 pub past-start : Past 0 emptyBook []
 past-start = record {
   openings = λ u m. absurd (List·Memᴰ·not-nil m);
@@ -107,9 +107,11 @@ past-start = record {
 -- one step more
 module _ {n : ℕ} {b : Book} {past : List Step} (h : Past n b past) (s : Step) (first : s .openings ≡ n) (book : s .book ≡ b)
     (answer : number s ≡ expectedAnswer b (s .call)) where
+  -- the steps with this one
   abbrev more : List Step
   more = past ++ (s ∷ [])
 
+  -- what holds of the steps so far and of this one holds of all
   one-more : (P : Step → Type 0) → ((u : Step) → u among past → P u) → P s → (u : Step) → u among more → P u
   one-more P old new u m =
       ⊎-elim (λ (k : u among past). old u k) (λ (k : u among (s ∷ [])). subst P (sym (List·Memᴰ·eq-of-singleton k)) new)
@@ -128,17 +130,21 @@ module _ {n : ℕ} {b : Book} {past : List Step} (h : Past n b past) (s : Step) 
 
   -- every other call goes on with the same shot
   module _ (same : isOpening (s .call) ≡ false) where
+    -- the book after the call
     abbrev next : Book
     next = bookStep b (s .call)
 
+    -- the strips held are those measured
     strips-more : next .strips ≡ stripsMeasured n more
     strips-more =
         book-strips b (s .call) same
         ∙ sym (measured-append n past (s ∷ []) ∙ simp (eq-eqb (s .openings) n first, answer, sym (h .strips), append-nil))
 
+    -- a curve stays
     curve-stays : (curve : List ℕ) → b .curve ≡ some curve → next .curve ≡ some curve
     curve-stays curve e = ap (λ (d : Book). d .curve) (book-stays b (s .call) curve same e) ∙ e
 
+    -- and was made by an accepted fixing, this one or one before
     fixed-more : (had : Option (List ℕ)) → b .curve ≡ had → (curve : List ℕ) → next .curve ≡ some curve → FixedBy n more curve
     fixed-more none none-yet curve e =
         let (accepted, m) = book-made b (s .call) curve none-yet e in
@@ -164,6 +170,7 @@ module _ {n : ℕ} {b : Book} {past : List Step} (h : Past n b past) (s : Step) 
           made = f .made ∙ ap (curveOf (f .choice)) (sym (h .strips) ∙ sym (ap (λ (d : Book). d .strips) unchanged) ∙ strips-more);
         }
 
+    -- so the same holds before the next call
     past-within : Past n next more
     past-within = record {
       openings = one-more (λ (u : Step). u .openings ≤ n) (h .openings) (omega arith);
@@ -175,6 +182,7 @@ module _ {n : ℕ} {b : Book} {past : List Step} (h : Past n b past) (s : Step) 
           (λ e curve c. curve-stays curve (ap (λ (d : Book). d .curve) (sym book) ∙ c));
     }
 
+  -- after any call
   pub past-more : Past (cond (isOpening (s .call)) (suc n) n) (bookStep b (s .call)) more
   past-more = go (isOpening (s .call)) refl
     where

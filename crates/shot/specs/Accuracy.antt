@@ -65,11 +65,14 @@ abbrev pub entries : Option (List ℕ) → List ℕ
 entries none = []
 entries (some curve) = curve
 
--- The pixels written in a step: those of an accepted colouring, each with the book's entry for its sum. A refused call writes none.
+-- The pixels of a request that got this number and left these bytes: those of an accepted colouring, each with the book's entry for
+-- its sum. A refused one writes none.
+abbrev pub writtenFor : ℕ → Book → ColourRequest → List ℕ → List Written
+writtenFor number b q bytes = cond (eqb number 0) (pixelsWritten (methodOf (q .method)) (entries (b .curve)) (q .source) bytes) []
+
+-- The pixels written in a step.
 abbrev pub written : Step → List Written
-written t =
-    let q = requested (t .call) in
-    cond (eqb (number t) 0) (pixelsWritten (methodOf (q .method)) (entries (t .book .curve)) (q .source) (t .outcome .bytes)) []
+written t = writtenFor (number t) (t .book) (requested (t .call)) (t .outcome .bytes)
 
 -- What holds at the step t, after the steps `before`.
 pub record StepAccurate (before : List Step) (t : Step) : Type 0 where

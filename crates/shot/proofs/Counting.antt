@@ -12,9 +12,11 @@ use Rattle.tables.specs.Table.{at}
 use Rattle.tables.proofs.Laws.{is-tabulate}
 use Rattle.pixel.specs.Move.{intensity}
 use Rattle.pixel.specs.Strip.{pixelsOf}
+use Rattle.pixel.specs.declared.Pixel.{Pixel}
 use Rattle.pixel.proofs.Strips.{length-pixels, pixelFrom, drop-pixel}
-use Rattle.shot.specs.Shot.{countOf, withPixels}
-use Rattle.shot.proofs.Counts.{countOf-le}
+use Rattle.shot.specs.Histogram.{countOf}
+use Rattle.shot.specs.Shot.{withPixels}
+use Rattle.shot.proofs.Counts.{count-le}
 
 -- the loop's invariant, at byte i: what is left gives what the whole gives
 pub record Counting (start strip counts : List ℕ) (i : ℕ) : Type 0 where
@@ -22,7 +24,7 @@ pub record Counting (start strip counts : List ℕ) (i : ℕ) : Type 0 where
   pub whole : length strip % 3 ≡ 0
   pub within : i ≤ length strip
   pub size : length counts ≡ 766
-  pub left : (s : ℕ) → s ≤ 765 → at counts s + countOf s (pixelsOf (drop i strip)) ≡ at start s + countOf s (pixelsOf strip)
+  pub left : (s : ℕ) → s ≤ 765 → at counts s + countOf (pixelsOf (drop i strip)) s ≡ at start s + countOf (pixelsOf strip) s
 
 pub counting-start : (start strip : List ℕ) → length start ≡ 766 → length strip % 3 ≡ 0 → Counting start strip start 0
 counting-start start strip size whole =
@@ -32,9 +34,9 @@ module _ {start strip counts : List ℕ} {i : ℕ} (h : Counting start strip cou
   pub counting-end : length strip ≤ i → counts ≡ withPixels start (pixelsOf strip)
   unfolding withPixels
   counting-end past =
-      is-tabulate (λ s. at start s + countOf s (pixelsOf strip)) 766 counts (h .size)
+      is-tabulate (λ s. at start s + countOf (pixelsOf strip) s) 766 counts (h .size)
       (λ s l.
-      let none = ap (λ (rest : List ℕ). countOf s (pixelsOf rest)) (drop-of-length-le strip {i = i} past) in
+      let none = ap (λ (rest : List ℕ). countOf (pixelsOf rest) s) (drop-of-length-le strip {i = i} past) in
       omega (arith, h .left s (omega arith)))
 
   module _ (less : i < length strip) (s : ℕ) (is : s ≡ intensity (pixelFrom strip i)) (range : s ≤ 765) where
@@ -42,23 +44,23 @@ module _ {start strip counts : List ℕ} {i : ℕ} (h : Counting start strip cou
     three = omega (arith, h .threes, h .whole)
 
     -- the next pixel, and those after it
-    next : (t : ℕ) → countOf t (pixelsOf (drop i strip)) ≡ countOf t (pixelFrom strip i ∷ pixelsOf (drop (i + 3) strip))
-    next t = ap (countOf t) (drop-pixel strip i three)
+    next : (t : ℕ) → countOf (pixelsOf (drop i strip)) t ≡ countOf (pixelFrom strip i ∷ pixelsOf (drop (i + 3) strip)) t
+    next t = ap (λ (ps : List Pixel). countOf ps t) (drop-pixel strip i three)
 
     -- its count stays within what the strip can add
     pub counting-room : at counts s + 1 ≤ at start s + length strip / 3
     counting-room =
-        let here : countOf s (pixelFrom strip i ∷ pixelsOf (drop (i + 3) strip)) ≡ 1 + countOf s (pixelsOf (drop (i + 3) strip)) =
+        let here : countOf (pixelFrom strip i ∷ pixelsOf (drop (i + 3) strip)) s ≡ 1 + countOf (pixelsOf (drop (i + 3) strip)) s =
         simp (eq-eqb (intensity (pixelFrom strip i)) s (sym is)) in
-        omega (arith, h .left s range, next s, countOf-le s (pixelsOf strip), length-pixels strip)
+        omega (arith, h .left s range, next s, count-le (λ i. eqb i s) (pixelsOf strip), length-pixels strip)
 
     -- one more at s is the pixel's own count
-    one-more : (t : ℕ) → at (set counts s (at counts s + 1)) t + countOf t (pixelsOf (drop (i + 3) strip)) ≡ at counts t + countOf t (pixelsOf (drop i strip))
+    one-more : (t : ℕ) → at (set counts s (at counts s + 1)) t + countOf (pixelsOf (drop (i + 3) strip)) t ≡ at counts t + countOf (pixelsOf (drop i strip)) t
     one-more t = rw (next t) (go (eqb (intensity (pixelFrom strip i)) t) refl)
       where
         go : (b : Bool) → eqb (intensity (pixelFrom strip i)) t ≡ b
-            → at (set counts s (at counts s + 1)) t + countOf t (pixelsOf (drop (i + 3) strip))
-            ≡ at counts t + (cond b 1 0 + countOf t (pixelsOf (drop (i + 3) strip)))
+            → at (set counts s (at counts s + 1)) t + countOf (pixelsOf (drop (i + 3) strip)) t
+            ≡ at counts t + (cond b 1 0 + countOf (pixelsOf (drop (i + 3) strip)) t)
         go true z =
             let same : s ≡ t = is ∙ eqb-true _ t z in
             rw (← same) (omega (arith, getD-set-same counts s (at counts s + 1) 0 (omega (arith, h .size))))

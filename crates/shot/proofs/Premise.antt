@@ -5,6 +5,7 @@ use mathlib.Core.List.{List}
 use mathlib.Core.Option.{some}
 use Prim.Native.Nat.{ℕ, _≤_, _<_}
 use native.Mathlib.Omega.{arith}
+use lib.Dec.{eqb}
 use lib.ListN.{length}
 use Rattle.pixel.specs.Strip.{Bytes}
 use Rattle.curve.specs.Inner.{HistogramOf}
@@ -15,7 +16,7 @@ use Rattle.shot.specs.Reachable.{Reachable, Reachable.byOpening, Reachab
 use Rattle.shot.specs.Shot.{pixelLimit, opened, measured, fixedWith, ColourRequest, coloured}
 use Rattle.shot.specs.declared.Shot.{Shot}
 use Rattle.shot.specs.declared.Answer.{Answer}
-use Rattle.shot.proofs.Counts.{countOf-le, cumulative-counts, pixels-cumulative}
+use Rattle.shot.proofs.Counts.{count-le, cumulative-counts, pixels-cumulative}
 use Rattle.shot.proofs.Passed.{Measurable}
 use Rattle.shot.proofs.Pixels.{has-some}
 use Rattle.shot.proofs.Sound.{reachable-sound}
@@ -32,7 +33,7 @@ module _ {x : Shot} (r : Reachable x) where
       let held = pixelsIn (b .strips) in
       record {
         whole = ok .whole;
-        fit = λ s l. omega (arith, h .represents .counts s l, countOf-le s held, h .represents .pixels, ok .room);
+        fit = λ s l. omega (arith, h .represents .counts s l, count-le (λ i. eqb i s) held, h .represents .pixels, ok .room);
       }
 
   -- the counts of a shot with pixels are their histogram

@@ -13,18 +13,20 @@ use Rattle.tables.specs.Table.{at, _among_}
 use Rattle.tables.proofs.Cases.{true-false}
 use Rattle.tables.proofs.Laws.{at-tabulate}
 use Rattle.pixel.specs.Strip.{pixelsOf, Bytes}
+use Rattle.pixel.specs.declared.Pixel.{Pixel}
 use Rattle.pixel.proofs.Strips.{length-pixels, pixels-in-range, intensity-in-range}
 use Rattle.curve.specs.Choices.{choiceOf}
 use Rattle.curve.specs.Curve.{toneCurve, IsToneCurve}
 use Rattle.curve.specs.Histogram.{cumulative}
 use Rattle.curve.proofs.Curve.{curves-are-tone-curves, tone-curve-same}
 use Rattle.shot.specs.Accuracy.{Represents}
-use Rattle.shot.specs.Book.{Call, Call.opening, Call.measuring, Call.fixing, Call.colouring, Book, emptyBook, pixelsIn, countUpTo, curveOf, hasCurve, expectedAnswer, entered, bookStep}
+use Rattle.shot.specs.Book.{Call, Call.opening, Call.measuring, Call.fixing, Call.colouring, Book, emptyBook, pixelsIn, curveOf, hasCurve, expectedAnswer, entered, bookStep}
+use Rattle.shot.specs.Histogram.{countOf, countUpTo}
 use Rattle.shot.specs.Reachable.{Reachable, Reachable.byOpening, Reachable.byMeasuring, Reachable.byFixing}
 use Rattle.shot.specs.Run.{step, WellFormed}
-use Rattle.shot.specs.Shot.{pixelLimit, countOf, withPixels, opened, withStrip, measured, withCurve, fixedWith, coloured}
+use Rattle.shot.specs.Shot.{pixelLimit, withPixels, opened, withStrip, measured, withCurve, fixedWith, coloured}
 use Rattle.shot.specs.declared.Shot.{Shot}
-use Rattle.shot.proofs.Counts.{Counted, countOf-append, cumulative-counts, pixels-cumulative, pixelsIn-joined}
+use Rattle.shot.proofs.Counts.{Counted, count-append, cumulative-counts, pixels-cumulative, pixelsIn-joined}
 use Rattle.shot.proofs.Passed.{Measurable, measure-passed, Fixable, fix-passed}
 
 -- the shot represents the book, within the limits that the next call leans on
@@ -84,9 +86,9 @@ joined {x} {b} h strip bytes ok =
     record {
       represents = record {
         counts = λ s l.
-            at-tabulate (λ s. at (x .counts) s + countOf s (pixelsOf strip)) 766 s (omega arith)
-            ∙ ap (λ (n : ℕ). n + countOf s (pixelsOf strip)) (h .represents .counts s l)
-            ∙ sym (ap (countOf s) all ∙ countOf-append s held (pixelsOf strip));
+            at-tabulate (λ s. at (x .counts) s + countOf (pixelsOf strip) s) 766 s (omega arith)
+            ∙ ap (λ (n : ℕ). n + countOf (pixelsOf strip) s) (h .represents .counts s l)
+            ∙ sym (ap (λ (ps : List Pixel). countOf ps s) all ∙ count-append (λ i. eqb i s) held (pixelsOf strip));
         pixels = rw all (omega (arith, h .represents .pixels, length-append held (pixelsOf strip), length-pixels strip));
         fixed = h .represents .fixed;
         curve = h .represents .curve;

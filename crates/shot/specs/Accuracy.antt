@@ -11,15 +11,16 @@ use Rattle.tables.specs.Table.{at, _among_}
 use Rattle.pixel.specs.Methods.{methodOf}
 use Rattle.colouring.specs.Written.{Written, WrittenExact, WrittenAccurate, pixelsWritten, AtMostTwoBelow}
 use Rattle.shot.specs.Book.{Call, Call.opening, Call.measuring, Call.fixing, Call.colouring, Book, pixelsIn, curveOf, hasCurve, expectedAnswer}
+use Rattle.shot.specs.Histogram.{countOf}
 use Rattle.shot.specs.Reachable.{Reachable}
 use Rattle.shot.specs.Run.{Step, number, trace, Occurs, WellFormed}
-use Rattle.shot.specs.Shot.{countOf, ColourRequest}
+use Rattle.shot.specs.Shot.{ColourRequest}
 use Rattle.shot.specs.declared.Shot.{Shot}
 
 -- What the shot keeps is what the book holds.
 pub record Represents (x : Shot) (b : Book) : Type 0 where
   -- each count is the number of held pixels of that sum
-  pub counts : (s : ℕ) → s ≤ 765 → at (x .counts) s ≡ countOf s (pixelsIn (b .strips))
+  pub counts : (s : ℕ) → s ≤ 765 → at (x .counts) s ≡ countOf (pixelsIn (b .strips)) s
   -- N is the number of held pixels
   pub pixels : x .pixels ≡ length (pixelsIn (b .strips))
   -- the shot is fixed exactly if the book has a curve, and then by that curve

@@ -4,15 +4,15 @@ use mathlib.Core.Bool.{Bool, true, false, cond, not}
 use mathlib.Core.List.{List, [], _∷_, _++_}
 use mathlib.Core.Option.{Option, none, some}
 use Prim.Native.Nat.{ℕ, _+_}
-use lib.Dec.{leb, ltb, eqb}
+use lib.Dec.{ltb, eqb}
 use lib.ListN.{length}
 use Rattle.refusal.specs.Refusal.{Check, _refuses_, firstOf}
 use Rattle.pixel.specs.Methods.{isMethod}
-use Rattle.pixel.specs.Move.{intensity}
 use Rattle.pixel.specs.Strip.{isWhole, pixelsOf}
 use Rattle.pixel.specs.declared.Pixel.{Pixel}
 use Rattle.curve.specs.Choices.{isChoice, choiceOf}
 use Rattle.curve.specs.Curve.{toneCurve}
+use Rattle.shot.specs.Histogram.{countUpTo}
 use Rattle.shot.specs.Shot.{pixelLimit, ColourRequest}
 
 -- A call, with what it brings besides the shot.
@@ -34,11 +34,6 @@ emptyBook = record { strips = []; curve = none }
 abbrev pub pixelsIn : List (List ℕ) → List Pixel
 pixelsIn [] = []
 pixelsIn (strip ∷ strips) = pixelsOf strip ++ pixelsIn strips
-
--- H(s): the number of pixels whose sum is at most s.
-abbrev pub countUpTo : List Pixel → ℕ → ℕ
-countUpTo [] s = 0
-countUpTo (p ∷ ps) s = cond (leb (intensity p) s) 1 0 + countUpTo ps s
 
 -- The curve of the strips, with N and H counted over all their pixels.
 unfoldable pub curveOf : ℕ → List (List ℕ) → List ℕ

@@ -1,3 +1,4 @@
+pub mod Histogram
 pub mod Shot
 pub mod Reachable
 pub mod Book

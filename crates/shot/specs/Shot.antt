@@ -7,13 +7,13 @@ use lib.ListN.{length, replicate}
 use Rattle.refusal.specs.Refusal.{Check, _refuses_, firstOf}
 use Rattle.tables.specs.Table.{tabulate, at}
 use Rattle.pixel.specs.Methods.{isMethod, methodOf}
-use Rattle.pixel.specs.Move.{intensity}
 use Rattle.pixel.specs.Strip.{isWhole, pixelsOf}
 use Rattle.pixel.specs.declared.Pixel.{Pixel}
 use Rattle.curve.specs.Choices.{isChoice, choiceOf}
 use Rattle.curve.specs.Curve.{toneCurve}
 use Rattle.curve.specs.Histogram.{cumulative}
 use Rattle.colouring.specs.Colouring.{colouredStrip}
+use Rattle.shot.specs.Histogram.{countOf}
 use Rattle.shot.specs.declared.Shot.{Shot}
 use Rattle.shot.specs.declared.Answer.{Answer}
 
@@ -21,14 +21,9 @@ use Rattle.shot.specs.declared.Answer.{Answer}
 abbrev pub pixelLimit : ℕ
 pixelLimit = 16777216
 
--- How many of the pixels have the sum s.
-abbrev pub countOf : ℕ → List Pixel → ℕ
-countOf s [] = 0
-countOf s (p ∷ ps) = cond (eqb (intensity p) s) 1 0 + countOf s ps
-
 -- The tally of 766 counts, one for each sum, with the pixels added to it.
 unfoldable pub withPixels : List ℕ → List Pixel → List ℕ
-withPixels counts ps = tabulate (λ s. at counts s + countOf s ps) 766
+withPixels counts ps = tabulate (λ s. at counts s + countOf ps s) 766
 
 -- A SHOT is opened empty: all counts are zero. (So is the place of its curve, which nothing reads before it is fixed.)
 unfoldable pub opened : Shot

@@ -5,6 +5,7 @@ pub mod Sound
 pub mod Steps
 pub mod Pixels
 pub mod Answers
+pub mod Empty
 pub mod Premise
 pub mod Accuracy
 pub mod Witness

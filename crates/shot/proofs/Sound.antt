@@ -8,10 +8,10 @@ use Prim.Native.Nat.{ℕ, zero, suc, _+_, _≤_, _<_}
 use native.Mathlib.Omega.{arith}
 use borrow.Author.Tests.{eqb-true}
 use lib.Dec.{eqb}
-use lib.ListN.{length, replicate, length-append}
+use lib.ListN.{length, replicate, length-append, length-replicate}
 use Rattle.tables.specs.Table.{at, _among_}
 use Rattle.tables.proofs.Cases.{true-false}
-use Rattle.tables.proofs.Laws.{at-tabulate}
+use Rattle.tables.proofs.Laws.{length-tabulate, at-tabulate}
 use Rattle.pixel.specs.Strip.{pixelsOf, Bytes}
 use Rattle.pixel.specs.declared.Pixel.{Pixel}
 use Rattle.pixel.proofs.Strips.{length-pixels, pixels-in-range, intensity-in-range}
@@ -32,6 +32,7 @@ use Rattle.shot.proofs.Passed.{Measurable, measure-passed, Fixable, fix
 -- the shot represents the book, within the limits that the next call leans on
 pub record Sound (x : Shot) (b : Book) : Type 0 where
   pub represents : Represents x b
+  pub size : length (x .counts) ≡ 766
   pub limit : x .pixels ≤ pixelLimit
   pub counted : Counted (pixelsIn (b .strips))
   pub curve : (c : List ℕ) → b .curve ≡ some c → IsToneCurve c
@@ -55,6 +56,7 @@ pub sound-opened : Sound opened emptyBook
 unfolding opened
 sound-opened = record {
   represents = record { counts = λ s h. at-zeros 766 s; pixels = refl; fixed = refl; curve = λ c e. absurd (no-curve e) };
+  size = length-replicate {A = ℕ} 766 0;
   limit = omega arith;
   counted = λ p m. absurd (List·Memᴰ·not-nil m);
   curve = λ c e. absurd (no-curve e);
@@ -93,6 +95,7 @@ joined {x} {b} h strip bytes ok =
         fixed = h .represents .fixed;
         curve = h .represents .curve;
       };
+      size = length-tabulate (λ s. at (x .counts) s + countOf (pixelsOf strip) s) 766;
       limit = ok .room;
       counted =
           rw all
@@ -130,6 +133,7 @@ fixed-sound {x} {b} h choice ok = record {
     fixed = refl;
     curve = λ c e. fixed-alike h choice ∙ some-same e;
   };
+  size = h .size;
   limit = h .limit;
   counted = h .counted;
   curve = λ c e. rw (sym (some-same e)) (curve-shape h choice (ok .some));

@@ -1,6 +1,7 @@
 pub mod Histogram
 pub mod Shot
 pub mod Reachable
+pub mod Empty
 pub mod Book
 pub mod Run
 pub mod Accuracy

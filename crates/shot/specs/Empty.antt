@@ -1,0 +1,16 @@
+-- Document 01: "Where no refusal applies, an empty strip is measured or coloured with no change."
+use mathlib.Core.Path.{_≡_}
+use mathlib.Core.Bool.{true, false}
+use mathlib.Core.List.{[]}
+use Prim.Native.Nat.{ℕ}
+use Rattle.pixel.specs.Methods.{isMethod}
+use Rattle.shot.specs.Reachable.{Reachable}
+use Rattle.shot.specs.Shot.{measured, coloured}
+use Rattle.shot.specs.declared.Shot.{Shot}
+
+-- Claim: so it is. Proved: proofs/Empty.antt, `empty-strips-change-nothing`.
+pub record EmptyStripsChangeNothing : Type 0 where
+  pub measuring : (x : Shot) → Reachable x → x .fixed ≡ false → measured x [] ≡ record { shot = x; number = 0 }
+  pub colouring : (x : Shot) (method : ℕ) → x .fixed ≡ true → isMethod method ≡ true
+      → coloured x (record { method = method; source = []; destination = [] })
+      ≡ record { answer = record { shot = x; number = 0 }; bytes = [] }

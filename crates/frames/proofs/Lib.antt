@@ -1,1 +1,2 @@
+pub mod TwoPixels
 pub mod Starred

@@ -2,8 +2,10 @@
 use mathlib.Core.Path.{refl}
 use Rattle.rounding.specs.Near.{near}
 use Rattle.pixel.specs.Move.{moved, movedSample, naikMurthy, yangLee}
+use Rattle.curve.specs.declared.Choice.the-variants.{Cube, Equalised}
 use Rattle.frames.specs.Starred.{starred, StarredFramesHold}
+use Rattle.frames.proofs.TwoPixels.{two-pixel-curve}
 
 pub starred-frames-hold : StarredFramesHold
 unfolding starred moved movedSample naikMurthy yangLee near
-starred-frames-hold = (refl, (refl, (refl, (refl, (refl, (refl, (refl, (refl, (refl, (refl, (refl, (refl, (refl, (refl, (refl, (refl, (refl, tt)))))))))))))))))
+starred-frames-hold = (refl, (refl, (refl, (refl, (refl, (refl, (refl, (refl, (refl, (refl, (refl, (refl, (refl, (refl, (refl, (refl, (refl, (refl, (refl, (two-pixel-curve Cube, (two-pixel-curve Equalised, tt)))))))))))))))))))))

@@ -1,20 +1,28 @@
 -- Document 01, "Reference frames": the starred ones, as one table with one claim.
 use mathlib.Core.Path.{_≡_}
-use mathlib.Core.List.{List, [], _∷_}
+use mathlib.Core.List.{List, [], _∷_, _++_}
 use Prim.Native.Nat.{ℕ}
+use lib.ListN.{length, replicate}
 use Rattle.pixel.specs.Move.{intensity, moved}
 use Rattle.pixel.specs.declared.Pixel.{Pixel}
 use Rattle.pixel.specs.declared.Method.{Method}
 use Rattle.pixel.specs.declared.Method.the-variants.{NaikMurthy, YangLee}
+use Rattle.curve.specs.Curve.{toneCurve}
+use Rattle.curve.specs.declared.Choice.{Choice}
+use Rattle.curve.specs.declared.Choice.the-variants.{Cube, Equalised}
+use Rattle.shot.specs.Histogram.{countUpTo}
 
--- A frame is a move, by a method, of a pixel, to a target, with the pixel that it gives; or the sum of a pixel.
+-- A frame is a move, by a method, of a pixel, to a target, with the pixel that it gives; or the sum of a pixel; or the curve, by a
+-- choice, of some pixels, with its 766 entries.
 pub data Frame : Type 0 where
   move : Method → Pixel → ℕ → Pixel → Frame
   sum : Pixel → ℕ → Frame
+  curve : Choice → List Pixel → List ℕ → Frame
 
 abbrev pub Holds : Frame → Type 0
 Holds (move m p f q) = moved m p f ≡ q
 Holds (sum p s) = intensity p ≡ s
+Holds (curve c ps entries) = toneCurve c (length ps) (countUpTo ps) ≡ entries
 
 abbrev pub AllHold : List Frame → Type 0
 AllHold [] = Unit {0}
@@ -22,6 +30,14 @@ AllHold (x ∷ xs) = Holds x × AllHold xs
 
 abbrev pub rgb : ℕ → ℕ → ℕ → Pixel
 rgb r g b = record { r = r; g = g; b = b }
+
+-- One pixel of sum 300 and one of 600.
+abbrev pub twoPixels : List Pixel
+twoPixels = rgb 100 100 100 ∷ rgb 200 200 200 ∷ []
+
+-- The entries of a curve that is 0 up to 299, e for 300 to 599, and 765 from 600.
+unfoldable pub threeLevels : ℕ → List ℕ
+threeLevels e = replicate 300 0 ++ replicate 300 e ++ replicate 166 765
 
 unfoldable pub starred : List Frame
 starred =
@@ -50,6 +66,12 @@ starred =
     ∷ sum (rgb 255 255 1) 511
     ∷ move YangLee (rgb 255 255 1) 255 (rgb 128 128 0)
     ∷ move NaikMurthy (rgb 255 255 1) 255 (rgb 127 127 0)
+    -- One pixel of sum 300 and one of 600: the cube curve is 0 up to 299, 382 for 300 to 599, 765 from 600; equalised, 383 in place
+    -- of 382.
+    ∷ sum (rgb 100 100 100) 300
+    ∷ sum (rgb 200 200 200) 600
+    ∷ curve Cube twoPixels (threeLevels 382)
+    ∷ curve Equalised twoPixels (threeLevels 383)
     ∷ []
 
 -- Claim: every starred frame holds. Proved: proofs/Starred.antt, `starred-frames-hold`.

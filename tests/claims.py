@@ -1,8 +1,8 @@
 """Every claim that specs/ states is proved where its comment says.
 
-A claim is a definition without parameters that is a type: `abbrev pub NAME : Type 0`, or a record whose comment says so. Its
-comment ends in "Proved: proofs/FILE, `proof`." and stands above it. That file must bring NAME in from the claim's own file,
-must not define it anew, and must declare `pub proof : NAME`; the crate's check then proves it.
+A claim is a definition without parameters that is a proposition: `abbrev pub NAME : Type 0`, or a record without parameters of
+which some field states something. Its comment ends in "Proved: proofs/FILE, `proof`." and stands above it. That file must bring
+NAME in from the claim's own file, must not define it anew, and must declare `pub proof : NAME`; the crate's check then proves it.
 """
 
 import pathlib
@@ -12,11 +12,21 @@ import sys
 PROVED = re.compile(r"Proved: (proofs/\S+\.antt), `([^`]+)`")
 DEFINED = re.compile(r"^(?:abbrev pub|unfoldable pub|pub record|pub data) (\S+)", re.M)
 BARE = re.compile(r"^abbrev pub (\S+) : Type 0$", re.M)
+# a record of plain data has only types such as ℕ and List ℕ for its fields
+RECORD = re.compile(r"^pub record (\S+) : Type 0 where\n((?:(?:  .*)?\n)*)", re.M)
+STATES = re.compile(r"[≡≤<≈→]")
 
 
 def without_comments(text):
     text = re.sub(r"\{-.*?-\}", "", text, flags=re.S)
     return re.sub(r"--.*", "", text)
+
+
+def claims_in(text):
+    """The names of what a file of specs/ claims."""
+    text = without_comments(text)
+    records = {name for name, fields in RECORD.findall(text) if STATES.search(fields)}
+    return records | set(BARE.findall(text))
 
 
 def faults(crate, spec, claim, file, proof):
@@ -40,15 +50,16 @@ def main():
     wrong, count = [], 0
     for spec in sorted(pathlib.Path("crates").glob("*/specs/*.antt")):
         crate = spec.parent.parent
+        source = spec.read_text(encoding="utf-8")
         # a comment may run over several lines
-        text = re.sub(r"\n\s*-- ", " ", spec.read_text(encoding="utf-8"))
+        text = re.sub(r"\n\s*-- ", " ", source)
         said = set()
         for found in PROVED.finditer(text):
             claim = DEFINED.search(text, found.end()).group(1)
             said.add(claim)
             count += 1
             wrong += faults(crate, spec, claim, *found.groups())
-        for claim in set(BARE.findall(text)) - said:
+        for claim in sorted(claims_in(source) - said):
             wrong.append(f"{spec}: {claim}: no comment says where it is proved")
     for line in wrong:
         print(line)

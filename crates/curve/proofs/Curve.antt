@@ -14,7 +14,7 @@ use Rattle.tables.proofs.Cases.{either}
 use Rattle.tables.proofs.Laws.{length-tabulate, at-tabulate, is-tabulate, tabulate-same}
 use Rattle.targets.specs.Cube.{G}
 use Rattle.targets.proofs.Laws.{targets-are-right}
-use Rattle.curve.specs.Curve.{shareOf, wholeOf, before, shareAt, cubeEntry, equalisedEntry, byChoice, withEnds, entry, toneCurve, CurvesAreToneCurves}
+use Rattle.curve.specs.Curve.{shareOf, wholeOf, previous, shareAt, cubeEntry, equalisedEntry, byChoice, withEnds, entry, toneCurve, CurvesAreToneCurves}
 use Rattle.curve.specs.Histogram.{IsCumulative}
 use Rattle.curve.specs.Inner.{NonDecreasing, Shares, AimsFit}
 use Rattle.curve.specs.Nearest.{Nearest, nearestPlace}
@@ -45,27 +45,27 @@ whole-le h = omega arith
 
 module _ {N : ℕ} {H : ℕ → ℕ} (is : IsCumulative N H) where
   -- H(s − 1) does not fall
-  before-rises : (s t : ℕ) → s ≤ t → t ≤ 765 → before H s ≤ before H t
-  before-rises zero t h l = zero-le
-  before-rises (suc s) zero h l = omega arith
-  before-rises (suc s) (suc t) h l = is .rises s t (le-of-suc-le-suc h) (omega arith)
+  previous-rises : (s t : ℕ) → s ≤ t → t ≤ 765 → previous H s ≤ previous H t
+  previous-rises zero t h l = zero-le
+  previous-rises (suc s) zero h l = omega arith
+  previous-rises (suc s) (suc t) h l = is .rises s t (le-of-suc-le-suc h) (omega arith)
 
   -- H(s) is at most N
   all-le : (s : ℕ) → s ≤ 765 → H s ≤ N
   all-le s h = omega (arith, is .rises s 765 h (le-refl 765), is .last)
 
   -- and so is H(s − 1)
-  before-le : (s : ℕ) → s ≤ 765 → before H s ≤ N
-  before-le zero h = zero-le
-  before-le (suc s) h = all-le s (omega arith)
+  previous-le : (s : ℕ) → s ≤ 765 → previous H s ≤ N
+  previous-le zero h = zero-le
+  previous-le (suc s) h = all-le s (omega arith)
 
   -- the shares do not fall
   shares-rise : (s t : ℕ) → s ≤ t → t ≤ 765 → shareAt H s ≤ shareAt H t
-  shares-rise s t h l = share-rises (before-rises s t h l) (is .rises s t h l)
+  shares-rise s t h l = share-rises (previous-rises s t h l) (is .rises s t h l)
 
   -- none is larger than the whole
   shares-le : (s : ℕ) → s ≤ 765 → shareAt H s ≤ wholeOf N
-  shares-le s h = share-le-whole (before-le s h) (all-le s h)
+  shares-le s h = share-le-whole (previous-le s h) (all-le s h)
 
 -- G does not fall
 G-rises : Rising G 765
@@ -121,7 +121,7 @@ unfolding withEnds
 ends-white f = refl
 
 -- the others stay
-ends-inner : (f : ℕ → ℕ) (s : ℕ) → 0 < s → s < 765 → withEnds f s ≡ f s
+pub ends-inner : (f : ℕ → ℕ) (s : ℕ) → 0 < s → s < 765 → withEnds f s ≡ f s
 unfolding withEnds
 ends-inner f s h l = simp (ne-eqb s 0 (λ e. omega arith), ne-eqb s 765 (λ e. omega arith))
 
@@ -213,9 +213,9 @@ curves-are-tone-curves choice N H positive is =
     }
 
 -- H(s − 1) of histograms that agree up to 765
-before-same : (H H' : ℕ → ℕ) → ((s : ℕ) → s ≤ 765 → H s ≡ H' s) → (s : ℕ) → s ≤ 765 → before H s ≡ before H' s
-before-same H H' same zero h = refl
-before-same H H' same (suc s) h = same s (omega arith)
+previous-same : (H H' : ℕ → ℕ) → ((s : ℕ) → s ≤ 765 → H s ≡ H' s) → (s : ℕ) → s ≤ 765 → previous H s ≡ previous H' s
+previous-same H H' same zero h = refl
+previous-same H H' same (suc s) h = same s (omega arith)
 
 -- rules that agree with the curve's give the curve
 curve-of : (choice : Choice) (N : ℕ) (H f : ℕ → ℕ) → ((s : ℕ) → s ≤ 765 → f s ≡ inner choice N H s)
@@ -230,7 +230,7 @@ pub tone-curve-same : (choice : Choice) (N : ℕ) (H H' : ℕ → ℕ) → ((s :
 tone-curve-same choice N H H' same =
     sym (curve-of choice N H (inner choice N H) (λ s h. refl))
     ∙ curve-of choice N H' (inner choice N H)
-    (λ s h. ap (byChoice choice (wholeOf N)) (ap₂ shareOf (before-same H H' same s h) (same s h)))
+    (λ s h. ap (byChoice choice (wholeOf N)) (ap₂ shareOf (previous-same H H' same s h) (same s h)))
 
 -- The parts that the code makes, and the curve that comes of them.
 module _ (N : ℕ) (H : ℕ → ℕ) (whole : ℕ) (shares : List ℕ) (wholeIs : whole ≡ wholeOf N) (sharesAre : shares ≡ tabulate (shareAt H) 766) where

@@ -6,7 +6,7 @@ use Prim.Native.Nat.{ℕ, zero, suc, _+_, _≤_, suc-le-suc}
 use native.Mathlib.Nat.{le-refl, le-trans, le-add-right, le-of-suc-le-suc, eq-or-lt-of-le}
 use native.Mathlib.Omega.{arith}
 use Rattle.tables.specs.Table.{at}
-use Rattle.curve.specs.Curve.{before}
+use Rattle.curve.specs.Curve.{previous}
 use Rattle.curve.specs.Histogram.{sumOfFirst, cumulative, IsCumulative}
 use Rattle.curve.specs.Inner.{HistogramOf}
 
@@ -30,15 +30,15 @@ unfolding sumOfFirst
 sum-next counts n sum count e f = rw (e, f)
 
 -- H(s − 1)
-pub before-cumulative : (counts : List ℕ) (s : ℕ) → sumOfFirst counts s ≡ before (cumulative counts) s
-before-cumulative counts zero = sym (sum-start counts)
-before-cumulative counts (suc s) = refl
+pub previous-cumulative : (counts : List ℕ) (s : ℕ) → sumOfFirst counts s ≡ previous (cumulative counts) s
+previous-cumulative counts zero = sym (sum-start counts)
+previous-cumulative counts (suc s) = refl
 
 pub cumulative-is-cumulative : (counts : List ℕ) → IsCumulative (cumulative counts 765) (cumulative counts)
 cumulative-is-cumulative counts =
     record { rises = λ s t h l. sum-rises counts (suc s) (suc t) (suc-le-suc h); last = refl }
 
--- the counts of n pixels
+-- counts that add up to n
 pub histogram-is-cumulative : {n : ℕ} {counts : List ℕ} → HistogramOf n counts → IsCumulative n (cumulative counts)
 histogram-is-cumulative {n} {counts} h =
     subst (λ (m : ℕ). IsCumulative m (cumulative counts)) (h .all) (cumulative-is-cumulative counts)

@@ -22,13 +22,13 @@ unfoldable pub wholeOf : ℕ → ℕ
 wholeOf n = n
 
 -- H(s − 1), with H(−1) = 0.
-abbrev pub before : (ℕ → ℕ) → ℕ → ℕ
-before H zero = 0
-before H (suc s) = H s
+abbrev pub previous : (ℕ → ℕ) → ℕ → ℕ
+previous H zero = 0
+previous H (suc s) = H s
 
 -- The share for the sum s.
 abbrev pub shareAt : (ℕ → ℕ) → ℕ → ℕ
-shareAt H s = shareOf (before H s) (H s)
+shareAt H s = shareOf (previous H s) (H s)
 
 -- Choice 1, cube (equation 14): the k where the distance between N × G(k) and G(765) × H(s) is least. Of two equal distances the
 -- smaller k wins.

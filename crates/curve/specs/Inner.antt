@@ -15,7 +15,7 @@ pub record FirstAtLeast (g : List ℕ) (v k : ℕ) : Type 0 where
   pub below : (j : ℕ) → j < k → at g j < v
   pub above : (j : ℕ) → k ≤ j → j ≤ 765 → v ≤ at g j
 
--- The counts are those of n pixels, at least one and at most 2^31.
+-- The counts add up to n, at least 1 and at most 2^31.
 pub record HistogramOf (n : ℕ) (counts : List ℕ) : Type 0 where
   pub all : cumulative counts 765 ≡ n
   pub some : 0 < n

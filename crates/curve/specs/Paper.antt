@@ -5,7 +5,8 @@ use Prim.Native.Nat.{ℕ, _≤_, _<_}
 use lib.Dec.{T}
 use Rattle.rounding.specs.Fraction.{Fraction, whole, _over_, _⊕_, _⊖_, _⊗_, _⊘_, _≼_, nearest}
 use Rattle.targets.specs.Paper.{area}
-use Rattle.curve.specs.Curve.{cubeEntry, equalisedEntry}
+use Rattle.curve.specs.Curve.{entry}
+use Rattle.curve.specs.declared.Choice.the-variants.{Cube, Equalised}
 
 -- Equation 5: f(l) = round((L / H_L) H_l), with L = 765.
 abbrev pub equation5 : ℕ → ℕ → Fraction
@@ -19,10 +20,12 @@ apart x y = (x ⊖ y) ⊕ (y ⊖ x)
 abbrev pub equation14 : ℕ → ℕ → ℕ → Fraction
 equation14 hL hl k = apart (whole hL ⊗ area (k over 255)) (area (whole 3) ⊗ whole hl)
 
--- Claim: document 01's entries are the paper's; of two equal distances the smaller k wins. Proved: proofs/Paper.antt,
--- `entries-are-the-papers`.
+-- Claim: between the ends, the curve's entry for the sum s is the paper's, with H_L = N and H_l = H(s); of two equal distances the
+-- smaller k wins. Proved: proofs/Paper.antt, `entries-are-the-papers`.
 pub record EntriesAreThePapers : Type 0 where
-  pub equalised : (n h : ℕ) → 0 < n → equalisedEntry n h ≡ nearest (equation5 n h)
-  pub within : (n h : ℕ) → cubeEntry n h ≤ 765
-  pub least : (n h j : ℕ) → j ≤ 765 → T (equation14 n h (cubeEntry n h) ≼ equation14 n h j)
-  pub first : (n h j : ℕ) → j < cubeEntry n h → (equation14 n h j ≼ equation14 n h (cubeEntry n h)) ≡ false
+  pub equalised : (N : ℕ) (H : ℕ → ℕ) (s : ℕ) → 0 < N → 0 < s → s < 765 → entry Equalised N H s ≡ nearest (equation5 N (H s))
+  pub within : (N : ℕ) (H : ℕ → ℕ) (s : ℕ) → 0 < s → s < 765 → entry Cube N H s ≤ 765
+  pub least : (N : ℕ) (H : ℕ → ℕ) (s : ℕ) → 0 < s → s < 765
+      → (j : ℕ) → j ≤ 765 → T (equation14 N (H s) (entry Cube N H s) ≼ equation14 N (H s) j)
+  pub first : (N : ℕ) (H : ℕ → ℕ) (s : ℕ) → 0 < s → s < 765
+      → (j : ℕ) → j < entry Cube N H s → (equation14 N (H s) j ≼ equation14 N (H s) (entry Cube N H s)) ≡ false

@@ -117,6 +117,7 @@ step-accurate before t g =
       strips = g .past .strips;
       answer = answered ∙ answers-agree (g .sound .represents) (t .call);
       curve = g .past .fixed;
+      shape = g .sound .curve;
       size = ap (λ (o : Outcome). length (o .bytes)) (g .did) ∙ step-size (t .shot) (t .call);
       untouched =
           λ refused.

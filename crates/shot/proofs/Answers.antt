@@ -27,19 +27,17 @@ answer-accepted n m x y z e zero same = rw (eq-eqb m 0 (sym e ∙ zero), e, same
 -- A colouring with its checks' number.
 module _ (x : Shot) (q : ColourRequest) (n : ℕ)
     (e : n ≡ firstOf (colourChecks (x .fixed) (q .method) (length (q .source)) (length (q .destination)))) where
-  carried-is : carriedOut n x q ≡ coloured x q
+  -- leaves the shot with the number, and these bytes
+  abbrev left : List ℕ → Outcome
+  left bytes = record { answer = record { shot = x; number = n }; bytes = bytes }
+
+  coloured-is : (bytes : List ℕ) → bytes ≡ carriedOut n x q .bytes → coloured x q ≡ left bytes
   unfolding coloured
-  carried-is = ap (λ (number : ℕ). carriedOut number x q) e
+  coloured-is bytes same = sym (ap left same ∙ ap (λ (number : ℕ). carriedOut number x q) e)
 
-  -- hands back the shot, and leaves these bytes
-  coloured-is : (bytes : List ℕ) → bytes ≡ carriedOut n x q .bytes
-      → (record { shot = x; number = n } ≡ coloured x q .answer) × (bytes ≡ coloured x q .bytes)
-  coloured-is bytes same =
-      (ap (λ (o : Outcome). o .answer) carried-is, same ∙ ap (λ (o : Outcome). o .bytes) carried-is)
-
-  pub coloured-refused : (n ≡ 0 → ⊥) → (record { shot = x; number = n } ≡ coloured x q .answer) × (q .destination ≡ coloured x q .bytes)
+  pub coloured-refused : (n ≡ 0 → ⊥) → coloured x q ≡ left (q .destination)
   coloured-refused refused = coloured-is (q .destination) (sym (carried-untouched n x q refused))
 
   pub coloured-accepted : (bytes : List ℕ) → n ≡ 0 → bytes ≡ colouredStrip (methodOf (q .method)) (x .curve) (q .source)
-      → (record { shot = x; number = n } ≡ coloured x q .answer) × (bytes ≡ coloured x q .bytes)
+      → coloured x q ≡ left bytes
   coloured-accepted bytes zero same = coloured-is bytes (same ∙ sym (simp (eq-eqb n 0 zero)))

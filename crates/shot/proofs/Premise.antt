@@ -13,7 +13,7 @@ use Rattle.colouring.specs.Inner.{EntriesInRange}
 use Rattle.shot.specs.Book.{pixelsIn}
 use Rattle.shot.specs.Inner.{CountsFit}
 use Rattle.shot.specs.Reachable.{Reachable, Reachable.byOpening, Reachable.byMeasuring, Reachable.byFixing}
-use Rattle.shot.specs.Shot.{pixelLimit, opened, measured, fixedWith, ColourRequest, coloured}
+use Rattle.shot.specs.Shot.{pixelLimit, opened, measured, fixedWith, ColourRequest, Outcome, coloured}
 use Rattle.shot.specs.declared.Shot.{Shot}
 use Rattle.shot.specs.declared.Answer.{Answer}
 use Rattle.shot.proofs.Counts.{count-le, cumulative-counts, pixels-cumulative}
@@ -67,6 +67,7 @@ from-measure strip r bytes e = subst (λ (b : Answer). Reachable (b .shot)) (sym
 pub from-fix : {x : Shot} {a : Answer} (choice : ℕ) → Reachable x → a ≡ fixedWith x choice → Reachable (a .shot)
 from-fix choice r e = subst (λ (b : Answer). Reachable (b .shot)) (sym e) (byFixing r choice)
 
-pub from-colour : {x : Shot} {a : Answer} (q : ColourRequest) → Reachable x → a ≡ coloured x q .answer → Reachable (a .shot)
+pub from-colour : {x : Shot} {a : Answer} (q : ColourRequest) (bytes : List ℕ) → Reachable x
+    → coloured x q ≡ record { answer = a; bytes = bytes } → Reachable (a .shot)
 unfolding coloured
-from-colour q r e = subst (λ (b : Answer). Reachable (b .shot)) (sym e) r
+from-colour q bytes r e = subst (λ (o : Outcome). Reachable (o .answer .shot)) e r

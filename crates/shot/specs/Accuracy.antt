@@ -9,6 +9,7 @@ use lib.Dec.{eqb}
 use lib.ListN.{length}
 use Rattle.tables.specs.Table.{at, _among_}
 use Rattle.pixel.specs.Methods.{methodOf}
+use Rattle.curve.specs.Curve.{IsToneCurve}
 use Rattle.colouring.specs.Written.{Written, WrittenExact, WrittenAccurate, pixelsWritten, AtMostTwoBelow}
 use Rattle.shot.specs.Book.{Call, Call.opening, Call.measuring, Call.fixing, Call.colouring, Book, pixelsIn, curveOf, hasCurve, expectedAnswer}
 use Rattle.shot.specs.Histogram.{countOf}
@@ -39,8 +40,8 @@ abbrev pub stripsMeasured : ℕ → List Step → List (List ℕ)
 stripsMeasured n [] = []
 stripsMeasured n (t ∷ ts) = cond (eqb (t .openings) n && eqb (number t) 0) (stripOf (t .call)) [] ++ stripsMeasured n ts
 
--- The accepted fixing, among some steps, that made the curve of the shot with n openings before it: by its choice, from all strips
--- measured, in accepted calls, since that shot was opened.
+-- An accepted fixing, among some steps, of the shot with n openings before it made this curve: by its choice, from all strips
+-- measured, in accepted calls, since that shot was opened. (A second fixing is refused, so there is one.)
 pub record FixedBy (n : ℕ) (steps : List Step) (curve : List ℕ) : Type 0 where
   pub fix : Step
   pub member : fix among steps
@@ -61,7 +62,7 @@ requested (measuring strip) = noRequest
 requested (fixing choice) = noRequest
 requested (colouring q) = q
 
--- The book's curve; without one, no entry.
+-- The book's curve; without one, no entry (and 6 refuses a colouring).
 abbrev pub entries : Option (List ℕ) → List ℕ
 entries none = []
 entries (some curve) = curve
@@ -69,7 +70,7 @@ entries (some curve) = curve
 -- The pixels of a request that got this number and left these bytes: those of an accepted colouring, each with the book's entry for
 -- its sum. A refused one writes none.
 abbrev pub writtenFor : ℕ → Book → ColourRequest → List ℕ → List Written
-writtenFor number b q bytes = cond (eqb number 0) (pixelsWritten (methodOf (q .method)) (entries (b .curve)) (q .source) bytes) []
+writtenFor answer b q bytes = cond (eqb answer 0) (pixelsWritten (methodOf (q .method)) (entries (b .curve)) (q .source) bytes) []
 
 -- The pixels written in a step.
 abbrev pub written : Step → List Written
@@ -87,12 +88,14 @@ pub record StepAccurate (before : List Step) (t : Step) : Type 0 where
   pub answer : number t ≡ expectedAnswer (t .book) (t .call)
   -- "the curve being that of all strips measured, in accepted calls, since its shot was opened"
   pub curve : (c : List ℕ) → t .book .curve ≡ some c → FixedBy (t .openings) before c
+  -- a curve has 766 entries, the first 0 and the last 765, none above 765 and none less than the one before
+  pub shape : (c : List ℕ) → t .book .curve ≡ some c → IsToneCurve c
   -- a colouring leaves the destination as long as it was, and a refused one leaves every byte of it
   pub size : length (t .outcome .bytes) ≡ length (requested (t .call) .destination)
   pub untouched : (number t ≡ 0 → ⊥) → t .outcome .bytes ≡ requested (t .call) .destination
   -- every pixel written is the source pixel, moved to the entry by the method (demand 2)
   pub exact : (w : Written) → w among written t → WrittenExact w
-  -- "every pixel written keeps four rules": these three, and the order of two pixels below
+  -- "every pixel written keeps four rules"
   pub rules : (w : Written) → w among written t → WrittenAccurate w
 
 -- What holds of a list of calls. (What it leaves is what a further call finds.)

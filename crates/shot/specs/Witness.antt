@@ -18,51 +18,54 @@ abbrev pub one : List ℕ
 one = 90 ∷ 100 ∷ 110 ∷ []
 
 -- Two pixels to be coloured, of the sums 60 and 300.
-abbrev pub source : List ℕ
-source = 10 ∷ 20 ∷ 30 ∷ 90 ∷ 100 ∷ 110 ∷ []
+abbrev pub both : List ℕ
+both = 10 ∷ 20 ∷ 30 ∷ 90 ∷ 100 ∷ 110 ∷ []
 
--- Not whole pixels.
-abbrev pub odd : List ℕ
-odd = 1 ∷ 2 ∷ 3 ∷ 4 ∷ []
+-- A pixel and a third.
+abbrev pub uneven : List ℕ
+uneven = 1 ∷ 2 ∷ 3 ∷ 4 ∷ []
 
 abbrev pub colour : ℕ → List ℕ → List ℕ → Call
 colour method source destination = colouring (record { method = method; source = source; destination = destination })
 
+-- Where a call breaks several rules, the first of them is named: (colour 3 uneven one) breaks 7, 2 and 8.
 unfoldable pub calls : List Call
 calls =
-    colour 1 source two
+    colour 3 uneven one
+    ∷ fixing 3
     ∷ fixing 1
     ∷ measuring two
-    ∷ measuring odd
+    ∷ measuring uneven
     ∷ measuring one
     ∷ fixing 3
     ∷ fixing 1
-    ∷ measuring one
-    ∷ fixing 2
-    ∷ colour 1 source two
-    ∷ colour 2 source two
-    ∷ colour 3 source two
-    ∷ colour 2 odd two
-    ∷ colour 2 source one
+    ∷ measuring uneven
+    ∷ fixing 3
+    ∷ colour 1 both two
+    ∷ colour 2 both two
+    ∷ colour 3 uneven one
+    ∷ colour 2 uneven one
+    ∷ colour 2 both one
     ∷ colour 2 [] []
     ∷ opening
-    ∷ colour 1 source two
+    ∷ colour 1 both two
     ∷ measuring []
     ∷ measuring two
     ∷ measuring one
     ∷ fixing 2
-    ∷ colour 1 source two
+    ∷ colour 1 both two
     ∷ []
 
 -- Claim: so the list runs. Proved: proofs/Witness.antt, `witness-runs`.
 pub record WitnessRuns : Type 0 where
   pub wellFormed : (c : Call) → c among calls → WellFormed c
   pub numbers : map number (trace calls)
-      ≡ 6 ∷ 5 ∷ 0 ∷ 2 ∷ 0 ∷ 4 ∷ 0 ∷ 1 ∷ 1 ∷ 0 ∷ 0 ∷ 7 ∷ 2 ∷ 8 ∷ 0 ∷ 0 ∷ 6 ∷ 0 ∷ 0 ∷ 0 ∷ 0 ∷ 0 ∷ []
+      ≡ 6 ∷ 4 ∷ 5 ∷ 0 ∷ 2 ∷ 0 ∷ 4 ∷ 0 ∷ 1 ∷ 1 ∷ 0 ∷ 0 ∷ 7 ∷ 2 ∷ 8 ∷ 0 ∷ 0 ∷ 6 ∷ 0 ∷ 0 ∷ 0 ∷ 0 ∷ 0 ∷ []
   pub pixels : map (λ t. length (written t)) (trace calls)
-      ≡ 0 ∷ 0 ∷ 0 ∷ 0 ∷ 0 ∷ 0 ∷ 0 ∷ 0 ∷ 0 ∷ 2 ∷ 2 ∷ 0 ∷ 0 ∷ 0 ∷ 0 ∷ 0 ∷ 0 ∷ 0 ∷ 0 ∷ 0 ∷ 0 ∷ 2 ∷ []
+      ≡ 0 ∷ 0 ∷ 0 ∷ 0 ∷ 0 ∷ 0 ∷ 0 ∷ 0 ∷ 0 ∷ 0 ∷ 2 ∷ 2 ∷ 0 ∷ 0 ∷ 0 ∷ 0 ∷ 0 ∷ 0 ∷ 0 ∷ 0 ∷ 0 ∷ 0 ∷ 2 ∷ []
   pub bytes : map (λ t. t .outcome .bytes) (trace calls)
-      ≡ two
+      ≡ one
+      ∷ []
       ∷ []
       ∷ []
       ∷ []
@@ -73,8 +76,8 @@ pub record WitnessRuns : Type 0 where
       ∷ []
       ∷ (102 ∷ 108 ∷ 114 ∷ 140 ∷ 147 ∷ 154 ∷ [])
       ∷ (71 ∷ 108 ∷ 145 ∷ 140 ∷ 147 ∷ 154 ∷ [])
-      ∷ two
-      ∷ two
+      ∷ one
+      ∷ one
       ∷ one
       ∷ []
       ∷ []

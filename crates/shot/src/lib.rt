@@ -187,8 +187,7 @@ impl Shot {
     // Colours the source into the destination by the shot's curve, and hands the shot back as it is. Refused: 6, 7, 2, 8.
     pub fn colour(self, method: u32, source: &[u8], destination: &mut [u8]) -> Answer
         requires { ⌜ Reachable self ⌝ }
-        ensures answer { λ r. ⌜ r ≡ coloured self (record { method = method; source = now (source .entry); destination = now (destination .entry) }) .answer ⌝ }
-        ensures written { λ _. ⌜ now (destination .exit) ≡ coloured self (record { method = method; source = now (source .entry); destination = now (destination .entry) }) .bytes ⌝ }
+        ensures { λ r. ⌜ coloured self (record { method = method; source = now (source .entry); destination = now (destination .entry) }) ≡ record { answer = r; bytes = now (destination .exit) } ⌝ }
     {
         let number = colour_number(self.fixed, method, source.len(), destination.len());
         if number == 0 {

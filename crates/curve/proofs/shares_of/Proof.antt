@@ -7,7 +7,7 @@ use denote.Ref.{now}
 use Rattle.tables.proofs.Filling.{Filled, filled-start, filled-more, filled-end}
 use Rattle.curve.specs.Curve.{shareOf, shareAt}
 use Rattle.curve.specs.Histogram.{sumOfFirst, cumulative}
-use Rattle.curve.proofs.Histogram.{sum-start, sum-next, before-cumulative}
+use Rattle.curve.proofs.Histogram.{sum-start, sum-next, previous-cumulative}
 use Rattle.curve.proofs.shares_of.Statement.{statement}
 use Rattle.curve.proofs.shares_of.Tie as tie
 
@@ -57,7 +57,7 @@ loop-again c =
     let sum = looping .loop .inv .1 in
     let next = sum-next counts (looping .loop .s) (looping .loop .below) (added .wide .result) sum (added .wide .ensures .0) in (
       filled-more _ 766 _ _ _ (looping .loop .inv .0) (testing .loop-test .taken)
-          (c .share .ensures ∙ ap₂ shareOf (sum ∙ before-cumulative counts (looping .loop .s)) next),
+          (c .share .ensures ∙ ap₂ shareOf (sum ∙ previous-cumulative counts (looping .loop .s)) next),
       rw add-one next,
       omega arith,
     )

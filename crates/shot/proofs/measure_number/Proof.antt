@@ -6,6 +6,7 @@ use borrow.Author.Needs.{needs}
 use borrow.Author.Tests.{lt-ltb, le-ltb}
 use lib.Dec.{ltb}
 use Rattle.tables.proofs.Cases.{either}
+use Rattle.shot.specs.Shot.{pixelLimit}
 use Rattle.shot.proofs.measure_number.Statement.{statement}
 use Rattle.shot.proofs.measure_number.Tie as tie
 
@@ -24,7 +25,7 @@ measure-refusal-requires c κs = search needs
 returns : tie.Need-returns
 returns c =
     let a = c .before .args in
-    rw (sym (room-left 16777216 (a .pixels) (a .strip / 3) (omega arith))) (c .measure-refusal .ensures)
+    rw (sym (room-left pixelLimit (a .pixels) (a .strip / 3) (omega arith))) (c .measure-refusal .ensures)
 
 pub measure-number-spec : {M : Type 1} → statement M
 measure-number-spec = tie.close (tie.spec sub-room measure-refusal-requires returns)

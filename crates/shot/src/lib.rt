@@ -153,10 +153,12 @@ impl Shot {
         }
         let start = self.counts;
         let counts = count_strip(start, strip);
+        let more = (strip.len() / 3) as u32;
+        let pixels = self.pixels + more;
         let curve = self.curve;
         let shot = Shot {
             counts,
-            pixels: self.pixels + (strip.len() / 3) as u32,
+            pixels,
             fixed: self.fixed,
             curve,
         };

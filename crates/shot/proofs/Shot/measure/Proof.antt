@@ -28,11 +28,11 @@ accepted c = measure-passed _ _ _ (sym (c .before .measure-number .ensures) ∙ 
 count-strip-requires : tie.Need-count-strip-requires
 count-strip-requires c κs = counts-fit (c .before .before .before .before .pre) _ (accepted (c .before))
 
-cast-t11 : tie.Need-cast-t11
-cast-t11 c = omega (arith, accepted (c .before .before .before) .room)
+cast-more : tie.Need-cast-more
+cast-more c = omega (arith, accepted (c .before .before) .room)
 
-add-t12 : tie.Need-add-t12
-add-t12 c = omega (arith, accepted (c .before .before .before .before) .room)
+add-pixels : tie.Need-add-pixels
+add-pixels c = omega (arith, accepted (c .before .before .before) .room)
 
 returns-2 : tie.Need-returns-2
 unfolding measured
@@ -48,4 +48,4 @@ returns-2 c =
 pub measure-spec : {M : Type 1} → statement M
 measure-spec =
     tie.close
-    (tie.spec measure-number-requires returns count-strip-requires cast-t11 add-t12 returns-2)
+    (tie.spec measure-number-requires returns count-strip-requires cast-more add-pixels returns-2)

@@ -50,13 +50,13 @@ fn count_strip(start: [u32; 766], strip: &[u8]) -> [u32; 766]
 }
 
 // Measure 1, 2, 3: 0, or the number of the first that applies.
-fn measure_refusal(fixed: bool, uneven: bool, over: bool) -> u32
-    ensures { λ r. ⌜ r ≡ firstOf (fixed refuses 1 ∷ uneven refuses 2 ∷ over refuses 3 ∷ []) ⌝ }
+fn measure_refusal(fixed: bool, whole: bool, over: bool) -> u32
+    ensures { λ r. ⌜ r ≡ firstOf (fixed refuses 1 ∷ not whole refuses 2 ∷ over refuses 3 ∷ []) ⌝ }
 {
     if fixed {
         return 1;
     }
-    if uneven {
+    if !whole {
         return 2;
     }
     if over {
@@ -72,17 +72,17 @@ fn measure_number(fixed: bool, pixels: u32, strip: usize) -> u32
 {
     // the room left is compared, so that no sum can overflow
     let room = PIXEL_LIMIT - (pixels as usize);
-    measure_refusal(fixed, strip % 3 != 0, room < strip / 3)
+    measure_refusal(fixed, strip % 3 == 0, room < strip / 3)
 }
 
 // Fix 1, 4, 5: 0, or the number of the first that applies.
-fn fix_refusal(fixed: bool, valid: bool, empty: bool) -> u32
-    ensures { λ r. ⌜ r ≡ firstOf (fixed refuses 1 ∷ not valid refuses 4 ∷ empty refuses 5 ∷ []) ⌝ }
+fn fix_refusal(fixed: bool, known: bool, empty: bool) -> u32
+    ensures { λ r. ⌜ r ≡ firstOf (fixed refuses 1 ∷ not known refuses 4 ∷ empty refuses 5 ∷ []) ⌝ }
 {
     if fixed {
         return 1;
     }
-    if !valid {
+    if !known {
         return 4;
     }
     if empty {

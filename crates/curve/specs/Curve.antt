@@ -39,6 +39,7 @@ cubeEntry n h = nearestPlace (λ k. n * G k) 765 (G 765 * h)
 unfoldable pub equalisedEntry : ℕ → ℕ → ℕ
 equalisedEntry n h = near (765 * h) n
 
+-- The entry by a choice, before the ends are set.
 abbrev pub byChoice : Choice → ℕ → ℕ → ℕ
 byChoice Cube = cubeEntry
 byChoice Equalised = equalisedEntry

@@ -27,6 +27,7 @@ pub record Book : Type 0 where
   pub strips : List (List ℕ)
   pub curve : Option (List ℕ)
 
+-- No strip and no curve.
 abbrev pub emptyBook : Book
 emptyBook = record { strips = []; curve = none }
 
@@ -39,6 +40,7 @@ pixelsIn (strip ∷ strips) = pixelsOf strip ++ pixelsIn strips
 unfoldable pub curveOf : ℕ → List (List ℕ) → List ℕ
 curveOf choice strips = toneCurve (choiceOf choice) (length (pixelsIn strips)) (countUpTo (pixelsIn strips))
 
+-- Whether there is a curve.
 abbrev pub hasCurve : Option (List ℕ) → Bool
 hasCurve none = false
 hasCurve (some curve) = true

@@ -27,6 +27,7 @@ pub record Step : Type 0 where
 abbrev pub number : Step → ℕ
 number t = t .outcome .answer .number
 
+-- Whether a call opens a shot.
 abbrev pub isOpening : Call → Bool
 isOpening opening = true
 isOpening (measuring strip) = false

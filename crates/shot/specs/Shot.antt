@@ -101,6 +101,7 @@ carriedOut number x q =
       bytes = cond (eqb number 0) (colouredStrip (methodOf (q .method)) (x .curve) (q .source)) (q .destination);
     }
 
+-- What colouring leaves.
 unfoldable pub coloured : Shot → ColourRequest → Outcome
 coloured x q =
     carriedOut (firstOf (colourChecks (x .fixed) (q .method) (length (q .source)) (length (q .destination)))) x q

@@ -11,7 +11,7 @@ use Rattle.curve.specs.Histogram.{sumOfFirst, cumulative, IsCumulative}
 use Rattle.curve.specs.Inner.{HistogramOf}
 
 -- the sum of more counts is no less
-pub sum-rises : (counts : List ℕ) (m n : ℕ) → m ≤ n → sumOfFirst counts m ≤ sumOfFirst counts n
+sum-rises : (counts : List ℕ) (m n : ℕ) → m ≤ n → sumOfFirst counts m ≤ sumOfFirst counts n
 unfolding sumOfFirst
 sum-rises counts m zero h = let e : m ≡ 0 = omega arith in rw e (le-refl _)
 sum-rises counts m (suc n) h =
@@ -34,7 +34,7 @@ pub previous-cumulative : (counts : List ℕ) (s : ℕ) → sumOfFirst counts s 
 previous-cumulative counts zero = sym (sum-start counts)
 previous-cumulative counts (suc s) = refl
 
-pub cumulative-is-cumulative : (counts : List ℕ) → IsCumulative (cumulative counts 765) (cumulative counts)
+cumulative-is-cumulative : (counts : List ℕ) → IsCumulative (cumulative counts 765) (cumulative counts)
 cumulative-is-cumulative counts =
     record { rises = λ s t h l. sum-rises counts (suc s) (suc t) (suc-le-suc h); last = refl }
 

@@ -44,7 +44,7 @@ not-before {g} {n} {aim} {k} {k'} a b =
     either k k' (λ p. p) (λ q. omega (arith, a .first k' q, b .least k (a .within)))
 
 -- so there is one nearest place
-pub nearest-unique : {g : ℕ → ℕ} {n aim k k' : ℕ} → Nearest g n aim k → Nearest g n aim k' → k ≡ k'
+nearest-unique : {g : ℕ → ℕ} {n aim k k' : ℕ} → Nearest g n aim k → Nearest g n aim k' → k ≡ k'
 nearest-unique a b = le-antisymm (not-before a b) (not-before b a)
 
 -- one place more: the nearer of it and of the nearest place so far

@@ -25,7 +25,7 @@ use Rattle.shot.proofs.Passed.{Colourable, colour-passed}
 use Rattle.shot.proofs.Sound.{Sound}
 
 -- a colouring that is answered by this number passes its checks where the number is 0
-abbrev pub Passes : ℕ → Shot → ColourRequest → Type 0
+abbrev Passes : ℕ → Shot → ColourRequest → Type 0
 Passes number x q = number ≡ 0 → Colourable (x .fixed) (q .method) (length (q .source)) (length (q .destination))
 
 -- colouring's own checks
@@ -40,7 +40,7 @@ module _ (number : ℕ) (x : Shot) (q : ColourRequest) where
   coloured-bytes = colouredStrip (methodOf (q .method)) (x .curve) (q .source)
 
   -- the destination keeps its length
-  pub carried-size : Passes number x q → length (carriedOut number x q .bytes) ≡ length (q .destination)
+  carried-size : Passes number x q → length (carriedOut number x q .bytes) ≡ length (q .destination)
   carried-size ok = go (eqb number 0) refl
     where
       go : (t : Bool) → eqb number 0 ≡ t → length (cond t coloured-bytes (q .destination)) ≡ length (q .destination)
@@ -93,7 +93,7 @@ none-asked number b w m = absurd (go (eqb number 0) m)
     go false m = List·Memᴰ·not-nil m
 
 -- a colouring writes by the book's curve
-pub carried-written : (number : ℕ) {x : Shot} {b : Book} → Sound x b → (q : ColourRequest) → Passes number x q → Bytes (q .source)
+carried-written : (number : ℕ) {x : Shot} {b : Book} → Sound x b → (q : ColourRequest) → Passes number x q → Bytes (q .source)
     → (w : Written) → w among writtenFor number b q (carriedOut number x q .bytes) → ByBook b w
 carried-written number {x} {b} h q ok bytes w m = go (eqb number 0) refl m
   where

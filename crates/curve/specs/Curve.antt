@@ -14,10 +14,12 @@ use Rattle.curve.specs.declared.Choice.{Choice}
 use Rattle.curve.specs.declared.Choice.the-variants.{Cube, Equalised}
 
 -- The share of the pixels that a sum's entry is made from, H(s) / N, is `shareOf below upto` over `wholeOf N`, where `below` pixels
--- have a smaller sum and `upto` have a sum of at most s.
+-- have a smaller sum and `upto` have a sum of at most s. A share that counts less of its own sum would read `below` too, and change
+-- these two lines and no law.
 unfoldable pub shareOf : ℕ → ℕ → ℕ
 shareOf below upto = upto
 
+-- What all pixels count: N.
 unfoldable pub wholeOf : ℕ → ℕ
 wholeOf n = n
 
@@ -56,7 +58,8 @@ entry choice N H = withEnds (λ s. byChoice choice (wholeOf N) (shareAt H s))
 unfoldable pub toneCurve : Choice → ℕ → (ℕ → ℕ) → List ℕ
 toneCurve choice N H = tabulate (entry choice N H) 766
 
--- What every tone curve is: 766 entries, the first 0 and the last 765, none above 765 and none less than the one before.
+-- What every tone curve is: 766 entries, "entry 0 is 0, entry 765 is 765, none exceeds 765 and none is less than the one before"
+-- (document 01, "The panel's host").
 pub record IsToneCurve (curve : List ℕ) : Type 0 where
   pub size : length curve ≡ 766
   pub black : at curve 0 ≡ 0

@@ -1,4 +1,5 @@
--- The place at which a sequence lies nearest to an aim; of two equal distances the smaller place wins.
+-- The place at which a sequence lies nearest to an aim (document 01, "Fixing the curve", choice 1): of two equal distances the
+-- smaller place wins.
 use mathlib.Core.Path.{_≡_}
 use mathlib.Core.Bool.{cond}
 use mathlib.Core.Logic.{_↔_}

@@ -1,4 +1,4 @@
--- Source 004, equations 5 and 14, in exact fractions. H_L is the number of pixels, H_l how many of them the intensity l reaches.
+-- Source 004, equations 5 and 14, in exact fractions. H_L is the number of pixels, H_l how many of them have an intensity of at most l.
 use mathlib.Core.Path.{_≡_}
 use mathlib.Core.Bool.{false}
 use Prim.Native.Nat.{ℕ, _≤_, _<_}

@@ -2,7 +2,6 @@
 ghost use mathlib.Core.Path.{_≡_};
 ghost use mathlib.Core.Bool.{true};
 ghost use Prim.Native.Nat.{_*_, _^_, _≤_, _<_};
-ghost use Rattle.rounding.specs.Near.{near};
 ghost use Rattle.tables.specs.Table.{tabulate, at};
 ghost use Rattle.targets.specs.Cube.{G};
 ghost use Rattle.curve.specs.Choices.{isChoice, choiceOf};
@@ -87,7 +86,7 @@ fn scaled_targets(w: u64) -> [u64; 766]
     scaled
 }
 
-// A count as a wider number, with its range.
+// A count as a wider number. The contract hands its range on, since an element of a lent array has none that is known.
 fn wide(count: u32) -> u64
     ensures { λ r. ⌜ (r ≡ count) × (r < 2 ^ 32) ⌝ }
 {

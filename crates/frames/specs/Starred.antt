@@ -19,15 +19,18 @@ pub data Frame : Type 0 where
   sum : Pixel → ℕ → Frame
   curve : Choice → List Pixel → List ℕ → Frame
 
+-- What a frame says.
 abbrev pub Holds : Frame → Type 0
 Holds (move m p f q) = moved m p f ≡ q
 Holds (sum p s) = intensity p ≡ s
 Holds (curve c ps entries) = toneCurve c (length ps) (countUpTo ps) ≡ entries
 
+-- Every frame of a list holds.
 abbrev pub AllHold : List Frame → Type 0
 AllHold [] = Unit {0}
 AllHold (x ∷ xs) = Holds x × AllHold xs
 
+-- A pixel by its samples.
 abbrev pub rgb : ℕ → ℕ → ℕ → Pixel
 rgb r g b = record { r = r; g = g; b = b }
 
@@ -39,6 +42,7 @@ twoPixels = rgb 100 100 100 ∷ rgb 200 200 200 ∷ []
 unfoldable pub threeLevels : ℕ → List ℕ
 threeLevels e = replicate 300 0 ++ replicate 300 e ++ replicate 166 765
 
+-- The table.
 unfoldable pub starred : List Frame
 starred =
     -- Method 1, (100, 150, 200): target 300 gives (67, 100, 133); 600 gives (174, 200, 226).

@@ -10,7 +10,7 @@ use Rattle.pixel.specs.declared.Pixel.{Pixel}
 abbrev pub isWhole : ℕ → Bool
 isWhole n = eqb (n % 3) 0
 
--- The pixels of a strip, in order.
+-- The pixels of a strip, in order; one or two bytes left over make no pixel.
 abbrev pub pixelsOf : List ℕ → List Pixel
 pixelsOf [] = []
 pixelsOf (r ∷ []) = []

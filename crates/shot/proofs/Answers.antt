@@ -1,23 +1,17 @@
 -- What a call leaves, from the number that its checks gave.
 use mathlib.Core.Path.{_≡_, ap, sym, _∙_}
-use mathlib.Core.Bool.{cond}
 use mathlib.Core.List.{List}
 use Prim.Native.Nat.{ℕ}
 use borrow.Author.Tests.{eq-eqb, ne-eqb}
-use lib.Dec.{eqb}
 use lib.ListN.{length}
 use Rattle.refusal.specs.Refusal.{firstOf}
 use Rattle.pixel.specs.Methods.{methodOf}
 use Rattle.colouring.specs.Colouring.{colouredStrip}
-use Rattle.shot.specs.Shot.{ColourRequest, Outcome, colourChecks, carriedOut, coloured}
+use Rattle.shot.specs.Shot.{answered, ColourRequest, Outcome, colourChecks, carriedOut, coloured}
 use Rattle.shot.specs.declared.Shot.{Shot}
-use Rattle.shot.specs.declared.Answer.{Answer}
 use Rattle.shot.proofs.Pixels.{carried-untouched}
 
--- The answer of a call that changes the shot where it is accepted: the shot x where the number is not 0, and else y.
-abbrev pub answered : ℕ → Shot → Shot → Answer
-answered number y x = record { shot = cond (eqb number 0) y x; number = number }
-
+-- The answer of a call that changes the shot where it is accepted.
 pub answer-refused : (n m : ℕ) (x y : Shot) → n ≡ m → (n ≡ 0 → ⊥) → record { shot = x; number = n } ≡ answered m y x
 answer-refused n m x y e refused = rw (ne-eqb m 0 (λ z. refused (e ∙ z)), e)
 

@@ -4,11 +4,11 @@ use mathlib.Core.Bool.{Bool, true, false, cond}
 use mathlib.Core.List.{List, List·Memᴰ·not-nil, List·Memᴰ·append-cases}
 use mathlib.Core.Logic.{⊎-elim}
 use mathlib.Core.Option.{Option, none, some}
-use Prim.Native.Nat.{ℕ, zero, suc, _+_, _≤_, _<_}
+use Prim.Native.Nat.{ℕ, _+_, _≤_, _<_}
 use native.Mathlib.Omega.{arith}
 use borrow.Author.Tests.{eqb-true}
 use lib.Dec.{eqb}
-use lib.ListN.{length, replicate, length-append, length-replicate}
+use lib.ListN.{length, length-append, length-replicate, getD-replicate}
 use Rattle.tables.specs.Table.{at, _among_}
 use Rattle.tables.proofs.Cases.{true-false}
 use Rattle.tables.proofs.Laws.{length-tabulate, at-tabulate}
@@ -37,12 +37,6 @@ pub record Sound (x : Shot) (b : Book) : Type 0 where
   pub counted : Counted (pixelsIn (b .strips))
   pub curve : (c : List ℕ) → b .curve ≡ some c → IsToneCurve c
 
--- zeros are 0 at every place
-at-zeros : (n s : ℕ) → at (replicate n 0) s ≡ 0
-at-zeros zero s = refl
-at-zeros (suc n) zero = refl
-at-zeros (suc n) (suc s) = at-zeros n s
-
 -- no curve is not some curve
 pub no-curve : {c : List ℕ} → _≡_ {A = Option (List ℕ)} none (some c) → ⊥
 no-curve e = true-false (sym (ap hasCurve e))
@@ -55,7 +49,7 @@ some-same e = cc
 pub sound-opened : Sound opened emptyBook
 unfolding opened
 sound-opened = record {
-  represents = record { counts = λ s h. at-zeros 766 s; pixels = refl; fixed = refl; curve = λ c e. absurd (no-curve e) };
+  represents = record { counts = λ s h. getD-replicate 766 s 0 0 (omega arith); pixels = refl; fixed = refl; curve = λ c e. absurd (no-curve e) };
   size = length-replicate {A = ℕ} 766 0;
   limit = omega arith;
   counted = λ p m. absurd (List·Memᴰ·not-nil m);

@@ -41,7 +41,7 @@ stripsMeasured n [] = []
 stripsMeasured n (t ∷ ts) = cond (eqb (t .openings) n && eqb (number t) 0) (stripOf (t .call)) [] ++ stripsMeasured n ts
 
 -- An accepted fixing, among some steps, of the shot with n openings before it made this curve: by its choice, from all strips
--- measured, in accepted calls, since that shot was opened. (A second fixing is refused, so there is one.)
+-- measured, in accepted calls, since that shot was opened. (A second fixing is refused, so there is only one.)
 pub record FixedBy (n : ℕ) (steps : List Step) (curve : List ℕ) : Type 0 where
   pub fix : Step
   pub member : fix among steps
@@ -98,7 +98,7 @@ pub record StepAccurate (before : List Step) (t : Step) : Type 0 where
   -- "every pixel written keeps four rules"
   pub rules : (w : Written) → w among written t → WrittenAccurate w
 
--- What holds of a list of calls. (What it leaves is what a further call finds.)
+-- What holds of a list of calls. (What the last call leaves is covered too: the next step of a longer list starts from it.)
 pub record Accurate (calls : List Call) : Type 0 where
   pub steps : (before : List Step) (t : Step) → Occurs (trace calls) before t → StepAccurate before t
   -- "and of any two pixels of the same shot, whichever colourings and methods wrote them, the one whose input sum is no smaller has

@@ -29,11 +29,17 @@ withPixels counts ps = tabulate (λ s. at counts s + countOf ps s) 766
 unfoldable pub opened : Shot
 opened = record { counts = replicate 766 0; pixels = 0; fixed = false; curve = replicate 766 0 }
 
--- Measure 1, 2, 3, from whether the shot is fixed, its pixels and the strip's length. 1: a shot already fixed. 2: the length is not
--- a multiple of 3. 3: the pixels would exceed the limit.
+-- A call's answer: the shot y where it is accepted. A refused measure or fix hands back the shot x unchanged.
+abbrev pub answered : ℕ → Shot → Shot → Answer
+answered number y x = record { shot = cond (eqb number 0) y x; number = number }
+
+-- Measure 1, 2, 3. 1: a shot already fixed. 2: the length is not a multiple of 3. 3: the pixels would exceed the limit.
+abbrev pub measureRefusals : Bool → Bool → Bool → List Check
+measureRefusals fixed whole over = fixed refuses 1 ∷ not whole refuses 2 ∷ over refuses 3 ∷ []
+
+-- The same, from whether the shot is fixed, its pixels and the strip's length.
 abbrev pub measureChecks : Bool → ℕ → ℕ → List Check
-measureChecks fixed pixels strip =
-    fixed refuses 1 ∷ not (isWhole strip) refuses 2 ∷ ltb pixelLimit (pixels + strip / 3) refuses 3 ∷ []
+measureChecks fixed pixels strip = measureRefusals fixed (isWhole strip) (ltb pixelLimit (pixels + strip / 3))
 
 -- Each accepted strip adds its pixels to the counts and to N.
 abbrev pub withStrip : Shot → List ℕ → Shot
@@ -45,15 +51,17 @@ withStrip x strip =
       curve = x .curve;
     }
 
--- A refused measure hands back the shot unchanged.
+-- What measuring hands back.
 unfoldable pub measured : Shot → List ℕ → Answer
-measured x strip =
-    let number = firstOf (measureChecks (x .fixed) (x .pixels) (length strip)) in
-    record { shot = cond (eqb number 0) (withStrip x strip) x; number = number }
+measured x strip = answered (firstOf (measureChecks (x .fixed) (x .pixels) (length strip))) (withStrip x strip) x
 
 -- Fix 1, 4, 5. 1: a shot already fixed. 4: the curve choice is not 1 or 2. 5: no pixel has been measured.
+abbrev pub fixRefusals : Bool → Bool → Bool → List Check
+fixRefusals fixed known empty = fixed refuses 1 ∷ not known refuses 4 ∷ empty refuses 5 ∷ []
+
+-- The same, from whether the shot is fixed, the choice and its pixels.
 abbrev pub fixChecks : Bool → ℕ → ℕ → List Check
-fixChecks fixed choice pixels = fixed refuses 1 ∷ not (isChoice choice) refuses 4 ∷ eqb pixels 0 refuses 5 ∷ []
+fixChecks fixed choice pixels = fixRefusals fixed (isChoice choice) (eqb pixels 0)
 
 -- An accepted fixing makes the curve of the choice, from N and the cumulative counts.
 abbrev pub withCurve : Shot → ℕ → Shot
@@ -65,11 +73,9 @@ withCurve x choice =
       curve = toneCurve (choiceOf choice) (x .pixels) (cumulative (x .counts));
     }
 
--- A refused fix hands back the shot unchanged.
+-- What fixing hands back.
 unfoldable pub fixedWith : Shot → ℕ → Answer
-fixedWith x choice =
-    let number = firstOf (fixChecks (x .fixed) choice (x .pixels)) in
-    record { shot = cond (eqb number 0) (withCurve x choice) x; number = number }
+fixedWith x choice = answered (firstOf (fixChecks (x .fixed) choice (x .pixels))) (withCurve x choice) x
 
 -- What a colouring brings besides the shot.
 pub record ColourRequest : Type 0 where
@@ -82,15 +88,16 @@ pub record Outcome : Type 0 where
   pub answer : Answer
   pub bytes : List ℕ
 
--- Colour 6, 7, 2, 8, from whether the shot is fixed, the method and the lengths of source and destination. 6: a shot not fixed.
--- 7: the method is not 1 or 2. 2: the source's length is not a multiple of 3. 8: destination and source differ in length.
+-- Colour 6, 7, 2, 8. 6: a shot not fixed. 7: the method is not 1 or 2. 2: the source's length is not a multiple of 3. 8: destination
+-- and source differ in length.
+abbrev pub colourRefusals : Bool → Bool → Bool → Bool → List Check
+colourRefusals fixed known whole same =
+    not fixed refuses 6 ∷ not known refuses 7 ∷ not whole refuses 2 ∷ not same refuses 8 ∷ []
+
+-- The same, from whether the shot is fixed, the method and the lengths of source and destination.
 abbrev pub colourChecks : Bool → ℕ → ℕ → ℕ → List Check
 colourChecks fixed method source destination =
-    not fixed refuses 6
-    ∷ not (isMethod method) refuses 7
-    ∷ not (isWhole source) refuses 2
-    ∷ not (eqb destination source) refuses 8
-    ∷ []
+    colourRefusals fixed (isMethod method) (isWhole source) (eqb destination source)
 
 -- A colouring with its answer: an accepted one writes every source pixel, moved to the curve's entry for its sum; a refused one
 -- touches no byte. Both hand back the shot as it is.

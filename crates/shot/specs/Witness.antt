@@ -25,6 +25,7 @@ both = 10 ∷ 20 ∷ 30 ∷ 90 ∷ 100 ∷ 110 ∷ []
 abbrev pub uneven : List ℕ
 uneven = 1 ∷ 2 ∷ 3 ∷ 4 ∷ []
 
+-- A colouring by a method, of a source, into a destination.
 abbrev pub colour : ℕ → List ℕ → List ℕ → Call
 colour method source destination = colouring (record { method = method; source = source; destination = destination })
 

@@ -1,13 +1,11 @@
 // A shot: opened empty, measured strip by strip, fixed once, and then used to colour strips (document 01, "The ground covered").
 ghost use mathlib.Core.Path.{_≡_};
-ghost use mathlib.Core.Bool.{not};
-ghost use mathlib.Core.List.{[], _∷_};
 ghost use Prim.Native.Nat.{_+_, _≤_};
-ghost use Rattle.refusal.specs.Refusal.{_refuses_, firstOf};
+ghost use Rattle.refusal.specs.Refusal.{firstOf};
 ghost use Rattle.pixel.specs.Strip.{pixelsOf};
 ghost use Rattle.shot.specs.Inner.{CountsFit};
 ghost use Rattle.shot.specs.Reachable.{Reachable};
-ghost use Rattle.shot.specs.Shot.{pixelLimit, withPixels, opened, measureChecks, measured, fixChecks, fixedWith, colourChecks, coloured};
+ghost use Rattle.shot.specs.Shot.{pixelLimit, withPixels, opened, measureRefusals, measureChecks, measured, fixRefusals, fixChecks, fixedWith, colourRefusals, colourChecks, coloured};
 
 // At most so many pixels to a shot.
 const PIXEL_LIMIT: usize = 16777216;
@@ -27,7 +25,7 @@ pub struct Answer {
     pub number: u32,
 }
 
-// The intensity of a pixel, with its range.
+// The intensity of a pixel. The contract hands its range on, so that it is a place in the counts.
 fn intensity_of(r: u8, g: u8, b: u8) -> usize
     ensures { λ s. ⌜ (s ≡ r + g + b) × (s ≤ 765) ⌝ }
 {
@@ -51,7 +49,7 @@ fn count_strip(start: [u32; 766], strip: &[u8]) -> [u32; 766]
 
 // Measure 1, 2, 3: 0, or the number of the first that applies.
 fn measure_refusal(fixed: bool, whole: bool, over: bool) -> u32
-    ensures { λ r. ⌜ r ≡ firstOf (fixed refuses 1 ∷ not whole refuses 2 ∷ over refuses 3 ∷ []) ⌝ }
+    ensures { λ r. ⌜ r ≡ firstOf (measureRefusals fixed whole over) ⌝ }
 {
     if fixed {
         return 1;
@@ -77,7 +75,7 @@ fn measure_number(fixed: bool, pixels: u32, strip: usize) -> u32
 
 // Fix 1, 4, 5: 0, or the number of the first that applies.
 fn fix_refusal(fixed: bool, known: bool, empty: bool) -> u32
-    ensures { λ r. ⌜ r ≡ firstOf (fixed refuses 1 ∷ not known refuses 4 ∷ empty refuses 5 ∷ []) ⌝ }
+    ensures { λ r. ⌜ r ≡ firstOf (fixRefusals fixed known empty) ⌝ }
 {
     if fixed {
         return 1;
@@ -100,7 +98,7 @@ fn fix_number(fixed: bool, choice: u32, pixels: u32) -> u32
 
 // Colour 6, 7, 2, 8: 0, or the number of the first that applies.
 fn colour_refusal(fixed: bool, known: bool, whole: bool, same: bool) -> u32
-    ensures { λ r. ⌜ r ≡ firstOf (not fixed refuses 6 ∷ not known refuses 7 ∷ not whole refuses 2 ∷ not same refuses 8 ∷ []) ⌝ }
+    ensures { λ r. ⌜ r ≡ firstOf (colourRefusals fixed known whole same) ⌝ }
 {
     if !fixed {
         return 6;

@@ -15,12 +15,12 @@ use Rattle.tables.proofs.Laws.{length-tabulate, at-tabulate, is-tabulate, tabul
 use Rattle.targets.specs.Cube.{G}
 use Rattle.targets.proofs.Laws.{targets-are-right}
 use Rattle.curve.specs.Curve.{shareOf, wholeOf, previous, shareAt, cubeEntry, equalisedEntry, byChoice, withEnds, entry, toneCurve, CurvesAreToneCurves}
-use Rattle.curve.specs.Histogram.{IsCumulative}
-use Rattle.curve.specs.Inner.{NonDecreasing, Shares, AimsFit}
+use Rattle.curve.specs.Histogram.{NonDecreasing, IsCumulative}
+use Rattle.curve.specs.Inner.{Shares, AimsFit}
 use Rattle.curve.specs.Nearest.{Nearest, nearestPlace}
 use Rattle.curve.specs.declared.Choice.{Choice}
 use Rattle.curve.specs.declared.Choice.the-variants.{Cube, Equalised}
-use Rattle.curve.proofs.Nearest.{Rising, nearest-mono, nearest-is, nearest-same}
+use Rattle.curve.proofs.Nearest.{nearest-mono, nearest-is, nearest-same}
 
 -- What all other laws lean on of a share and of the whole: these four, and no other law, unfold them.
 -- a share rises with both its counts
@@ -68,7 +68,7 @@ module _ {N : ℕ} {H : ℕ → ℕ} (is : IsCumulative N H) where
   shares-le s h = share-le-whole (previous-le s h) (all-le s h)
 
 -- G does not fall
-G-rises : Rising G 765
+G-rises : NonDecreasing G
 G-rises j k h l = ⊎-elim (λ e. rw e (le-refl _)) (λ m. le-of-lt (targets-are-right .rises j k m l)) (eq-or-lt-of-le h)
 
 -- no target is larger than G(765)
@@ -77,7 +77,7 @@ G-le k h = omega (arith, G-rises k 765 h (le-refl 765), targets-are-right .at765
 
 module _ (w : ℕ) where
   -- the scaled targets do not fall
-  scaled-rises : Rising (λ k. w * G k) 765
+  scaled-rises : NonDecreasing (λ k. w * G k)
   scaled-rises j k h l = mul-le-mul-left w (G-rises j k h l)
 
   -- the cube entry is the nearest place
@@ -139,7 +139,7 @@ module _ (f : ℕ → ℕ) (le : (s : ℕ) → s ≤ 765 → f s ≤ 765) where
       (λ p q. rw (ends-inner f s p q) (le s h))
 
   -- and no entry is less than the one before
-  ends-rise : Rising f 765 → Rising (withEnds f) 765
+  ends-rise : NonDecreasing f → NonDecreasing (withEnds f)
   ends-rise up s t h l =
       by-ends (λ s. s ≤ t → withEnds f s ≤ withEnds f t) s (le-trans h l) (λ _. omega (arith, ends-black f))
       (λ m. let e : 765 ≡ t = omega arith in le-of-eq (ap (withEnds f) e))
@@ -190,7 +190,7 @@ module _ (choice : Choice) (N : ℕ) (H : ℕ → ℕ) (positive : 0 < N) (is : 
   inner-le s h = choice-le (wholeOf N) (whole-positive positive) choice (shares-le is s h)
 
   -- and none is less than the one before
-  inner-rises : Rising (inner choice N H) 765
+  inner-rises : NonDecreasing (inner choice N H)
   inner-rises s t h l = choice-rises (wholeOf N) (whole-positive positive) choice (shares-rise is s t h l)
 
   -- no entry of the curve is above 765
@@ -198,7 +198,7 @@ module _ (choice : Choice) (N : ℕ) (H : ℕ → ℕ) (positive : 0 < N) (is : 
   curve-le s h = rw (curve-at choice N H s h) (ends-le (inner choice N H) inner-le s h)
 
   -- the curve does not fall
-  curve-rises : Rising (at (toneCurve choice N H)) 765
+  curve-rises : NonDecreasing (at (toneCurve choice N H))
   curve-rises s t h l =
       rw (curve-at choice N H s (le-trans h l), curve-at choice N H t l) (ends-rise (inner choice N H) inner-le inner-rises s t h l)
 
@@ -261,7 +261,7 @@ module _ (N : ℕ) (H : ℕ → ℕ) (whole : ℕ) (shares : List ℕ) (wholeIs 
     scaled-at k h = rw scaledAre (at-tabulate (λ k. whole * G k) 766 k (omega arith))
 
     -- the table does not fall
-    pub scaled-non-decreasing : NonDecreasing scaled
+    pub scaled-non-decreasing : NonDecreasing (at scaled)
     scaled-non-decreasing j k h l =
         rw (scaled-at j (le-trans h l), scaled-at k l) (scaled-rises whole j k h l)
 

@@ -8,7 +8,8 @@ use native.Mathlib.Omega.{arith}
 use borrow.Author.Tests.{lt-ltb, le-ltb}
 use Rattle.tables.specs.Table.{at}
 use Rattle.tables.proofs.Cases.{either}
-use Rattle.curve.specs.Inner.{NonDecreasing, FirstAtLeast}
+use Rattle.curve.specs.Histogram.{NonDecreasing}
+use Rattle.curve.specs.Inner.{FirstAtLeast}
 use Rattle.curve.specs.Nearest.{distance, Nearest, nearer, nearestPlace, NearestMeans}
 
 -- of two values b ≤ a, an aim that is nearer to a lies above their middle
@@ -26,13 +27,9 @@ clash a b aim aim' h l p q =
     let below = below-middle a b aim' less q in
     omega arith
 
--- g does not fall over the places 0 to n
-abbrev pub Rising : (ℕ → ℕ) → ℕ → Type 0
-Rising g n = (j k : ℕ) → j ≤ k → k ≤ n → g j ≤ g k
-
 -- where g does not fall, a larger aim has no smaller place
-pub nearest-mono : {g : ℕ → ℕ} {n aim aim' k k' : ℕ} → Rising g n → aim ≤ aim' → Nearest g n aim k → Nearest g n aim' k' → k ≤ k'
-nearest-mono {g} {n} {aim} {aim'} {k} {k'} up h a b =
+pub nearest-mono : {g : ℕ → ℕ} {aim aim' k k' : ℕ} → NonDecreasing g → aim ≤ aim' → Nearest g 765 aim k → Nearest g 765 aim' k' → k ≤ k'
+nearest-mono {g} {aim} {aim'} {k} {k'} up h a b =
     either k k' (λ p. p)
     (λ q.
     absurd
@@ -128,7 +125,7 @@ module _ {g : List ℕ} {v : ℕ} where
         above = λ j l. b .above j (le-trans h l);
       }
 
-  module _ {low high : ℕ} (up : NonDecreasing g) (b : Bracket g v low high) (middle : ℕ) (l : low ≤ middle) (h : middle < high) where
+  module _ {low high : ℕ} (up : NonDecreasing (at g)) (b : Bracket g v low high) (middle : ℕ) (l : low ≤ middle) (h : middle < high) where
     -- the middle place is below v, and so is all before it
     pub bracket-up : at g middle < v → Bracket g v (middle + 1) high
     bracket-up less =
@@ -150,7 +147,7 @@ module _ {g : List ℕ} {v : ℕ} where
         }
 
 -- The four ends of the search for the nearest place: `upper` is the first place at which g is at least the aim.
-module _ (g : List ℕ) (aim upper : ℕ) (up : NonDecreasing g) (l : FirstAtLeast g aim upper) where
+module _ (g : List ℕ) (aim upper : ℕ) (up : NonDecreasing (at g)) (l : FirstAtLeast g aim upper) where
   -- `upper` is the first place of all
   pub found-start : upper ≡ 0 → 0 ≡ nearestPlace (at g) 765 aim
   found-start e =

@@ -8,7 +8,7 @@ use lib.ListN.{length}
 use Rattle.rounding.specs.Near.{near}
 use Rattle.tables.specs.Table.{tabulate, at}
 use Rattle.targets.specs.Cube.{G}
-use Rattle.curve.specs.Histogram.{IsCumulative}
+use Rattle.curve.specs.Histogram.{NonDecreasing, IsCumulative}
 use Rattle.curve.specs.Nearest.{nearestPlace}
 use Rattle.curve.specs.declared.Choice.{Choice}
 use Rattle.curve.specs.declared.Choice.the-variants.{Cube, Equalised}
@@ -65,7 +65,7 @@ pub record IsToneCurve (curve : List ℕ) : Type 0 where
   pub black : at curve 0 ≡ 0
   pub white : at curve 765 ≡ 765
   pub range : (s : ℕ) → s ≤ 765 → at curve s ≤ 765
-  pub rises : (s t : ℕ) → s ≤ t → t ≤ 765 → at curve s ≤ at curve t
+  pub rises : NonDecreasing (at curve)
 
 -- Claim: a curve made from a cumulative histogram of at least one pixel is such a curve. Proved: proofs/Curve.antt,
 -- `curves-are-tone-curves`.

@@ -13,7 +13,11 @@ sumOfFirst counts (suc n) = sumOfFirst counts n + at counts n
 abbrev pub cumulative : List ℕ → ℕ → ℕ
 cumulative counts s = sumOfFirst counts (suc s)
 
+-- f does not fall from 0 to 765.
+abbrev pub NonDecreasing : (ℕ → ℕ) → Type 0
+NonDecreasing f = (s t : ℕ) → s ≤ t → t ≤ 765 → f s ≤ f t
+
 -- What every cumulative histogram H of N pixels is: it does not fall, and H(765) = N.
 pub record IsCumulative (N : ℕ) (H : ℕ → ℕ) : Type 0 where
-  pub rises : (s t : ℕ) → s ≤ t → t ≤ 765 → H s ≤ H t
+  pub rises : NonDecreasing H
   pub last : H 765 ≡ N

@@ -5,10 +5,6 @@ use Prim.Native.Nat.{ℕ, _*_, _^_, _≤_, _<_}
 use Rattle.tables.specs.Table.{at}
 use Rattle.curve.specs.Histogram.{cumulative}
 
--- The sequence does not fall over its 766 places.
-abbrev pub NonDecreasing : List ℕ → Type 0
-NonDecreasing g = (j k : ℕ) → j ≤ k → k ≤ 765 → at g j ≤ at g k
-
 -- k is the first of 766 places at which the sequence is at least v, or 766 where there is none.
 pub record FirstAtLeast (g : List ℕ) (v k : ℕ) : Type 0 where
   pub within : k ≤ 766

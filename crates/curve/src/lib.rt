@@ -6,8 +6,8 @@ ghost use Rattle.tables.specs.Table.{tabulate, at};
 ghost use Rattle.targets.specs.Cube.{G};
 ghost use Rattle.curve.specs.Choices.{isChoice, choiceOf};
 ghost use Rattle.curve.specs.Curve.{shareOf, wholeOf, shareAt, equalisedEntry, withEnds, toneCurve};
-ghost use Rattle.curve.specs.Histogram.{cumulative};
-ghost use Rattle.curve.specs.Inner.{NonDecreasing, FirstAtLeast, HistogramOf, Shares, AimsFit};
+ghost use Rattle.curve.specs.Histogram.{NonDecreasing, cumulative};
+ghost use Rattle.curve.specs.Inner.{FirstAtLeast, HistogramOf, Shares, AimsFit};
 ghost use Rattle.curve.specs.Nearest.{nearestPlace};
 
 // The curve choices: the cube's (equation 14 of source 004) and the equalised one (equation 5).
@@ -36,7 +36,7 @@ pub fn choice_of(number: u32) -> Choice
 
 // The first place at which the sequence is at least v, or 766: a binary search.
 fn first_at_least(g: &[u64; 766], v: u64) -> usize
-    requires { ⌜ NonDecreasing (now g) ⌝ }
+    requires { ⌜ NonDecreasing (at (now g)) ⌝ }
     ensures { λ r. ⌜ FirstAtLeast (now (g .entry)) v r ⌝ }
 {
     let mut low = 0;
@@ -55,7 +55,7 @@ fn first_at_least(g: &[u64; 766], v: u64) -> usize
 // The smallest place at which the sequence lies nearest to the aim. A sequence may stay level, so the place of a value is the
 // first that holds it.
 fn nearest_place(g: &[u64; 766], aim: u64) -> usize
-    requires { ⌜ NonDecreasing (now g) ⌝ }
+    requires { ⌜ NonDecreasing (at (now g)) ⌝ }
     ensures { λ r. ⌜ r ≡ nearestPlace (at (now (g .entry))) 765 aim ⌝ }
 {
     let up = first_at_least(g, aim);
@@ -127,7 +127,7 @@ fn shares_of(counts: &[u32; 766]) -> [u64; 766]
 
 // For each sum the place of the sequence nearest to scale times its share.
 fn nearest_entries(g: &[u64; 766], scale: u64, shares: &[u64; 766]) -> [u16; 766]
-    requires { ⌜ NonDecreasing (now g) ⌝ }
+    requires { ⌜ NonDecreasing (at (now g)) ⌝ }
     requires { ⌜ AimsFit scale (now shares) ⌝ }
     ensures { λ r. ⌜ r ≡ tabulate (λ s. nearestPlace (at (now (g .entry))) 765 (scale * at (now (shares .entry)) s)) 766 ⌝ }
 {

@@ -1,10 +1,10 @@
 // Colouring a strip by a curve and a method (document 01, "Moving a pixel").
 ghost use mathlib.Core.Path.{_≡_};
-ghost use Prim.Native.Nat.{_+_};
 ghost use Rattle.tables.specs.Table.{at};
 ghost use Rattle.pixel.specs.Move.{intensity, moved};
+ghost use Rattle.curve.specs.Curve.{EntriesInRange};
 ghost use Rattle.colouring.specs.Colouring.{colouredStrip};
-ghost use Rattle.colouring.specs.Inner.{EntriesInRange, SameSize};
+ghost use Rattle.colouring.specs.Inner.{SameSize};
 use pixel::Method;
 use pixel::Pixel;
 

@@ -14,8 +14,8 @@ use Rattle.curve.specs.declared.Choice.{Choice}
 use Rattle.curve.specs.declared.Choice.the-variants.{Cube, Equalised}
 
 -- The share of the pixels that a sum's entry is made from, H(s) / N, is `shareOf below upto` over `wholeOf N`, where `below` pixels
--- have a smaller sum and `upto` have a sum of at most s. A share that counts less of its own sum would read `below` too, and change
--- these two lines and no law.
+-- have a smaller sum and `upto` have a sum of at most s. A share that counts less of its own sum would read `below` too: it
+-- changes these two lines, and of the claims only the one that says that the entries are the paper's.
 unfoldable pub shareOf : ℕ → ℕ → ℕ
 shareOf below upto = upto
 
@@ -58,13 +58,17 @@ entry choice N H = withEnds (λ s. byChoice choice (wholeOf N) (shareAt H s))
 unfoldable pub toneCurve : Choice → ℕ → (ℕ → ℕ) → List ℕ
 toneCurve choice N H = tabulate (entry choice N H) 766
 
+-- No entry is above 765.
+abbrev pub EntriesInRange : List ℕ → Type 0
+EntriesInRange curve = (s : ℕ) → s ≤ 765 → at curve s ≤ 765
+
 -- What every tone curve is: 766 entries, "entry 0 is 0, entry 765 is 765, none exceeds 765 and none is less than the one before"
 -- (document 01, "The panel's host").
 pub record IsToneCurve (curve : List ℕ) : Type 0 where
   pub size : length curve ≡ 766
   pub black : at curve 0 ≡ 0
   pub white : at curve 765 ≡ 765
-  pub range : (s : ℕ) → s ≤ 765 → at curve s ≤ 765
+  pub range : EntriesInRange curve
   pub rises : NonDecreasing (at curve)
 
 -- Claim: a curve made from a cumulative histogram of at least one pixel is such a curve. Proved: proofs/Curve.antt,

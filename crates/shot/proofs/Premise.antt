@@ -9,7 +9,7 @@ use lib.Dec.{eqb}
 use lib.ListN.{length}
 use Rattle.pixel.specs.Strip.{Bytes}
 use Rattle.curve.specs.Inner.{HistogramOf}
-use Rattle.colouring.specs.Inner.{EntriesInRange}
+use Rattle.curve.specs.Curve.{EntriesInRange}
 use Rattle.shot.specs.Book.{pixelsIn}
 use Rattle.shot.specs.Inner.{CountsFit}
 use Rattle.shot.specs.Reachable.{Reachable, Reachable.byOpening, Reachable.byMeasuring, Reachable.byFixing}

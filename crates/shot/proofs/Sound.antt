@@ -1,5 +1,5 @@
 -- The shot represents the book after every call.
-use mathlib.Core.Path.{_≡_, refl, sym, ap, _∙_}
+use mathlib.Core.Path.{_≡_, refl, sym, ap, subst, _∙_}
 use mathlib.Core.Bool.{Bool, true, false, cond}
 use mathlib.Core.List.{List, List·Memᴰ·not-nil, List·Memᴰ·append-cases}
 use mathlib.Core.Logic.{⊎-elim}
@@ -10,7 +10,7 @@ use borrow.Author.Tests.{eqb-true}
 use lib.Dec.{eqb}
 use lib.ListN.{length, length-append, length-replicate, getD-replicate}
 use Rattle.tables.specs.Table.{at, _among_}
-use Rattle.tables.proofs.Cases.{true-false}
+use Rattle.tables.proofs.Cases.{true-false, cond-same}
 use Rattle.tables.proofs.Laws.{length-tabulate, at-tabulate}
 use Rattle.pixel.specs.Strip.{pixelsOf, Bytes}
 use Rattle.pixel.specs.declared.Pixel.{Pixel}
@@ -133,11 +133,6 @@ fixed-sound {x} {b} h choice ok = record {
   curve = λ c e. rw (sym (some-same e)) (curve-shape h choice (ok .some));
 }
 
--- a colouring leaves the book as it is, accepted or not
-same-book : (t : Bool) {x : Shot} {b : Book} → Sound x b → Sound x (cond t b b)
-same-book true h = h
-same-book false h = h
-
 -- each call leaves them so
 pub sound-step : {x : Shot} {b : Book} → Sound x b → (c : Call) → WellFormed c → Sound (step x c .answer .shot) (bookStep b c)
 unfolding measured fixedWith coloured
@@ -150,7 +145,7 @@ sound-step {x} {b} h (fixing choice) ok =
     both _ _ (answers-agree (h .represents) (fixing choice))
     (λ e. fixed-sound h choice (fix-passed (x .fixed) choice (x .pixels) e))
     h
-sound-step {x} {b} h (colouring q) ok = same-book (eqb (expectedAnswer b (colouring q)) 0) h
+sound-step {x} {b} h (colouring q) ok = subst (Sound x) (sym (cond-same (eqb (expectedAnswer b (colouring q)) 0) b)) h
 
 -- every shot that came from the calls represents some book
 pub reachable-sound : {x : Shot} → Reachable x → (b : Book) × Sound x b

@@ -9,7 +9,7 @@ use native.Mathlib.Omega.{arith}
 use borrow.Author.Tests.{eqb-true, eq-eqb, ne-eqb}
 use lib.Dec.{eqb}
 use Rattle.tables.specs.Table.{_among_}
-use Rattle.tables.proofs.Cases.{true-false}
+use Rattle.tables.proofs.Cases.{true-false, cond-same}
 use Rattle.shot.specs.Accuracy.{stripOf, stripsMeasured, FixedBy}
 use Rattle.shot.specs.Book.{Call, Call.opening, Call.measuring, Call.fixing, Call.colouring, Book, emptyBook, curveOf, expectedAnswer, entered, bookStep}
 use Rattle.shot.specs.Run.{Step, number, isOpening}
@@ -43,11 +43,7 @@ book-stays : (b : Book) (c : Call) (curve : List ℕ) → isOpening c ≡ false 
 book-stays b opening curve o e = absurd (true-false o)
 book-stays b (measuring strip) curve o e = simp e
 book-stays b (fixing choice) curve o e = simp e
-book-stays b (colouring q) curve o e = same (eqb (expectedAnswer b (colouring q)) 0)
-  where
-    same : (t : Bool) → cond t b b ≡ b
-    same true = refl
-    same false = refl
+book-stays b (colouring q) curve o e = cond-same (eqb (expectedAnswer b (colouring q)) 0) b
 
 -- c is a fixing that makes this curve from the strips of the book b, and leaves these in the book d
 record Made (b d : Book) (c : Call) (curve : List ℕ) : Type 0 where

@@ -10,6 +10,11 @@ use lib.Dec.{eqb, leb}
 pub true-false : true ≡ false → ⊥
 true-false e = let bad : _≡_ {A = ℕ} 0 1 = cc in omega arith
 
+-- one value whatever the test
+pub cond-same : {A : Type 0} (t : Bool) (a : A) → cond t a a ≡ a
+cond-same true a = refl
+cond-same false a = refl
+
 -- m is at most n, or above it
 pub either : {P : Type 0} (m n : ℕ) → (m ≤ n → P) → (n < m → P) → P
 either {P} m n low high = go (leb m n) (leb-true m n) (leb-false m n)

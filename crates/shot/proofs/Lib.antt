@@ -9,3 +9,4 @@ pub mod Empty
 pub mod Premise
 pub mod Accuracy
 pub mod Witness
+pub mod OneStrip

@@ -1,5 +1,6 @@
 // A shot: opened empty, measured strip by strip, fixed once, and then used to colour strips (document 01, "The ground covered").
 ghost use mathlib.Core.Path.{_≡_};
+ghost use mathlib.Core.Bool.{true};
 ghost use Prim.Native.Nat.{_+_, _≤_};
 ghost use Rattle.refusal.specs.Refusal.{firstOf};
 ghost use Rattle.pixel.specs.Strip.{pixelsOf};
@@ -8,7 +9,7 @@ ghost use Rattle.shot.specs.Reachable.{Reachable};
 ghost use Rattle.shot.specs.Shot.{pixelLimit, withPixels, opened, measureRefusals, measureChecks, measured, fixRefusals, fixChecks, fixedWith, colourRefusals, colourChecks, coloured};
 
 // At most so many pixels to a shot.
-const PIXEL_LIMIT: usize = 16777216;
+pub const PIXEL_LIMIT: usize = 16777216;
 
 // A shot's state: how many of its pixels have each intensity, how many they are, and, once it is fixed, its tone curve. Nothing
 // reads the curve of a shot that is not fixed. The counts stay after fixing.
@@ -182,6 +183,14 @@ impl Shot {
             curve,
         };
         Answer { shot, number }
+    }
+
+    // The tone curve of a fixed shot. (Colouring lends it no further; the host's calls hand it on as bytes.)
+    pub fn fixed_curve(self) -> [u16; 766]
+        requires { ⌜ self .fixed ≡ true ⌝ }
+        ensures { λ r. ⌜ r ≡ self .curve ⌝ }
+    {
+        self.curve
     }
 
     // Colours the source into the destination by the shot's curve, and hands the shot back as it is. Refused: 6, 7, 2, 8.

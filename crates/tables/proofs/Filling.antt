@@ -1,5 +1,5 @@
 -- A loop that stores f i at each place i of a table of n entries in turn.
-use mathlib.Core.Path.{_≡_, _∙_}
+use mathlib.Core.Path.{_≡_, refl, sym, _∙_}
 use mathlib.Core.List.{List}
 use mathlib.Core.Logic.{⊎-elim}
 use Prim.Native.Nat.{ℕ, _+_, _<_, _≤_, zero-le}
@@ -33,3 +33,8 @@ module _ (f : ℕ → ℕ) (n : ℕ) (table : List ℕ) where
 
   pub filled-end : {i : ℕ} → Filled f n table i → n ≤ i → table ≡ tabulate f n
   filled-end {i} filled past = is-tabulate f n table (filled .size) (λ k h. filled .done k (omega arith))
+
+-- a table that holds a list's entries is that list
+pub filled-copy : (list : List ℕ) (n : ℕ) (table : List ℕ) {i : ℕ} → Filled (at list) n table i → n ≤ i → length list ≡ n → table ≡ list
+filled-copy list n table filled past size =
+    filled-end (at list) n table filled past ∙ sym (is-tabulate (at list) n list size (λ k h. refl))

@@ -1,0 +1,6 @@
+pub mod CurveBytes
+pub mod Passed
+pub mod Outcomes
+pub mod Agreement
+pub mod Accuracy
+pub mod Witness

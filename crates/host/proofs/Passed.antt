@@ -1,0 +1,60 @@
+-- What an accepted call has passed.
+use mathlib.Core.Path.{_≡_}
+use mathlib.Core.Bool.{true, not}
+use mathlib.Core.List.{List}
+use Prim.Native.Nat.{ℕ, _/_}
+use native.Mathlib.Omega.{arith}
+use borrow.Author.Tests.{not-false, ltb-false, eqb-false, eqb-true}
+use lib.Dec.{ltb, eqb}
+use lib.ListN.{length}
+use Rattle.refusal.specs.Refusal.{firstOf}
+use Rattle.refusal.proofs.Laws.{passed}
+use Rattle.pixel.specs.Methods.{isMethod}
+use Rattle.pixel.specs.Strip.{isWhole}
+use Rattle.curve.specs.Choices.{isChoice}
+use Rattle.curve.specs.Curve.{IsToneCurve}
+use Rattle.shot.specs.Shot.{pixelLimit}
+use Rattle.host.specs.CurveBytes.{curveLength, curveEntries, isToneCurve}
+use Rattle.host.specs.Host.{curveChecks, colourChecks}
+use Rattle.host.specs.Inner.{WholeShot}
+use Rattle.host.proofs.CurveBytes.{length-entries, curve-sound}
+
+pub curve-passed : (choice curve strip : ℕ) → firstOf (curveChecks choice curve strip) ≡ 0 → (curve ≡ curveLength) × WholeShot strip choice
+curve-passed choice curve strip e =
+    let (known, rest) = passed (not (isChoice choice)) 4 _ (omega arith) e in
+    let (sized, rest) = passed (not (eqb curve curveLength)) 10 _ (omega arith) rest in
+    let (whole, rest) = passed (not (isWhole strip)) 2 _ (omega arith) rest in
+    let (some, rest) = passed (eqb strip 0) 5 _ (omega arith) rest in
+    let (limit, _) = passed (ltb pixelLimit (strip / 3)) 3 _ (omega arith) rest in (
+      eqb-true _ _ (not-false _ sized),
+      record {
+        known = not-false _ known;
+        whole = not-false _ whole;
+        some = omega (arith, eqb-false strip 0 some);
+        limit = ltb-false _ _ limit;
+      },
+    )
+
+pub record Colourable (curve : List ℕ) (method source destination : ℕ) : Type 0 where
+  pub size : length curve ≡ curveLength
+  pub shape : IsToneCurve (curveEntries curve)
+  pub known : isMethod method ≡ true
+  pub whole : isWhole source ≡ true
+  pub same : destination ≡ source
+
+pub colour-passed : (curve : List ℕ) (method source destination : ℕ) → firstOf (colourChecks curve method source destination) ≡ 0
+    → Colourable curve method source destination
+colour-passed curve method source destination e =
+    let (sized, rest) = passed (not (eqb (length curve) curveLength)) 10 _ (omega arith) e in
+    let (ruled, rest) = passed (not (isToneCurve (curveEntries curve))) 11 _ (omega arith) rest in
+    let (known, rest) = passed (not (isMethod method)) 7 _ (omega arith) rest in
+    let (whole, rest) = passed (not (isWhole source)) 2 _ (omega arith) rest in
+    let (same, _) = passed (not (eqb destination source)) 8 _ (omega arith) rest in
+    let size : length curve ≡ curveLength = eqb-true _ _ (not-false _ sized) in
+    record {
+      size = size;
+      shape = curve-sound (curveEntries curve) (omega (arith, length-entries curve)) (not-false _ ruled);
+      known = not-false _ known;
+      whole = not-false _ whole;
+      same = eqb-true _ _ (not-false _ same);
+    }

@@ -1,0 +1,25 @@
+-- The witness of the host's claims, by computation.
+use mathlib.Core.Path.{refl}
+use Rattle.rounding.specs.Near.{near}
+use Rattle.tables.specs.Table.{tabulate}
+use Rattle.targets.specs.Cube.{G}
+use Rattle.pixel.specs.Move.{moved, movedSample, naikMurthy, yangLee}
+use Rattle.curve.specs.Curve.{shareOf, wholeOf, cubeEntry, equalisedEntry, withEnds, entry, toneCurve}
+use Rattle.curve.specs.Nearest.{nearer, nearestPlace}
+use Rattle.colouring.specs.Colouring.{colouredStrip}
+use Rattle.shot.specs.Book.{curveOf}
+use Rattle.host.specs.CurveBytes.{curveBytes, curveEntries, noneExceeds, noneFalls, isToneCurve}
+use Rattle.host.specs.Host.{curveOutcome, colourOutcome}
+use Rattle.host.specs.Witness.{run, level, curveCalls, colourCalls, WitnessRuns}
+
+pub witness-runs : WitnessRuns
+unfolding run level curveCalls colourCalls curveOutcome colourOutcome curveBytes curveEntries noneExceeds noneFalls isToneCurve tabulate colouredStrip moved movedSample naikMurthy yangLee near toneCurve entry withEnds cubeEntry equalisedEntry shareOf wholeOf nearer nearestPlace G curveOf
+witness-runs = record {
+  curveNumbers = refl;
+  untouched = refl;
+  cube = refl;
+  equalised = refl;
+  colourNumbers = refl;
+  pixels = refl;
+  colourBytes = refl;
+}

@@ -1,0 +1,42 @@
+-- Demand 3 for host colourings (document 01, "The panel's host"): "For every accepted one the mission's demand 3 reads the curve handed
+-- in, and pixels coloured by equal curves, in whichever host colourings, count as of the same shot."
+use mathlib.Core.Bool.{cond}
+use mathlib.Core.List.{List, []}
+use mathlib.Core.Path.{_≡_}
+use lib.Dec.{eqb}
+use lib.ListN.{length}
+use Rattle.tables.specs.Table.{_among_}
+use Rattle.pixel.specs.Methods.{methodOf}
+use Rattle.pixel.specs.Strip.{Bytes}
+use Rattle.curve.specs.Curve.{IsToneCurve}
+use Rattle.colouring.specs.Written.{Written, WrittenExact, WrittenAccurate, pixelsWritten, AtMostTwoBelow}
+use Rattle.host.specs.CurveBytes.{curveEntries}
+use Rattle.host.specs.Host.{ColourCall, colourOutcome}
+
+-- The pixels that a host colouring writes: those of an accepted one, each with the entry, for its sum, of the curve handed in. A refused
+-- one writes none.
+abbrev pub written : ColourCall → List Written
+written c =
+    cond (eqb (colourOutcome c .number) 0)
+    (pixelsWritten (methodOf (c .method)) (curveEntries (c .curve)) (c .source) (colourOutcome c .bytes))
+    []
+
+-- What holds of a host colouring.
+pub record ColouringAccurate (c : ColourCall) : Type 0 where
+  -- the curve of an accepted one has 766 entries, the first 0 and the last 765, none above 765 and none less than the one before
+  pub shape : colourOutcome c .number ≡ 0 → IsToneCurve (curveEntries (c .curve))
+  -- it leaves the destination as long as it was, and a refused one leaves every byte of it
+  pub size : length (colourOutcome c .bytes) ≡ length (c .destination)
+  pub untouched : (colourOutcome c .number ≡ 0 → ⊥) → colourOutcome c .bytes ≡ c .destination
+  -- every pixel written is the source pixel, moved to the entry by the method (demand 2)
+  pub exact : (w : Written) → w among written c → WrittenExact w
+  -- "every pixel written keeps four rules"
+  pub rules : (w : Written) → w among written c → WrittenAccurate w
+
+-- Claim: demand 3 for the host. A source is bytes; all else that a call brings is any. Proved: proofs/Accuracy.antt, `host-accurate`.
+pub record HostAccurate : Type 0 where
+  pub each : (c : ColourCall) → Bytes (c .source) → ColouringAccurate c
+  -- "and of any two pixels of the same shot, whichever colourings and methods wrote them, the one whose input sum is no smaller has
+  -- a sum at most two below the other's": here, pixels coloured by equal curves
+  pub order : (c d : ColourCall) → Bytes (c .source) → Bytes (d .source) → curveEntries (c .curve) ≡ curveEntries (d .curve)
+      → (v w : Written) → v among written c → w among written d → AtMostTwoBelow v w

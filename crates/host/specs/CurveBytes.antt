@@ -1,0 +1,47 @@
+-- A curve at the host's boundary (document 01, "The panel's host"): its bytes, and the rule by which one is accepted.
+use mathlib.Core.Path.{_≡_}
+use mathlib.Core.Bool.{Bool, true, _&&_}
+use mathlib.Core.List.{List, [], _∷_}
+use Prim.Native.Nat.{ℕ, _+_, _*_, _/_, _%_}
+use lib.Dec.{leb, eqb}
+use lib.ListN.{length}
+use Rattle.tables.specs.Table.{at}
+use Rattle.curve.specs.Curve.{IsToneCurve}
+
+-- A curve travels as 1,532 bytes.
+abbrev pub curveLength : ℕ
+curveLength = 1532
+
+-- "entry 0 first, two bytes an entry, low byte first"
+unfoldable pub curveBytes : List ℕ → List ℕ
+curveBytes [] = []
+curveBytes (entry ∷ entries) = (entry % 256) ∷ (entry / 256) ∷ curveBytes entries
+
+-- The entries that bytes stand for, read in that order.
+unfoldable pub curveEntries : List ℕ → List ℕ
+curveEntries [] = []
+curveEntries (low ∷ []) = []
+curveEntries (low ∷ high ∷ bytes) = (low + 256 * high) ∷ curveEntries bytes
+
+-- "none exceeds 765"
+unfoldable pub noneExceeds : List ℕ → Bool
+noneExceeds [] = true
+noneExceeds (entry ∷ entries) = leb entry 765 && noneExceeds entries
+
+-- "none is less than the one before", which here is `before`.
+unfoldable pub noneFalls : ℕ → List ℕ → Bool
+noneFalls before [] = true
+noneFalls before (entry ∷ entries) = leb before entry && noneFalls entry entries
+
+-- "It accepts a curve only if entry 0 is 0, entry 765 is 765, none exceeds 765 and none is less than the one before." (Before entry 0
+-- there is none; no entry is less than 0.)
+unfoldable pub isToneCurve : List ℕ → Bool
+isToneCurve curve = eqb (at curve 0) 0 && eqb (at curve 765) 765 && noneExceeds curve && noneFalls 0 curve
+
+-- Claim: 766 entries pass that test exactly if they are a tone curve, and reading a curve's bytes gives the curve back.
+-- Proved: proofs/CurveBytes.antt, `curves-travel`.
+pub record CurvesTravel : Type 0 where
+  pub sound : (curve : List ℕ) → length curve ≡ 766 → isToneCurve curve ≡ true → IsToneCurve curve
+  pub complete : (curve : List ℕ) → IsToneCurve curve → isToneCurve curve ≡ true
+  pub size : (curve : List ℕ) → length (curveBytes curve) ≡ 2 * length curve
+  pub back : (curve : List ℕ) → curveEntries (curveBytes curve) ≡ curve

@@ -1,0 +1,6 @@
+pub mod CurveBytes
+pub mod Host
+pub mod Agreement
+pub mod Accuracy
+pub mod Witness
+pub mod Inner

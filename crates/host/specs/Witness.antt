@@ -1,0 +1,77 @@
+-- The claims about the host's calls are not empty: calls whose answers and bytes are computed. Where a call breaks several rules, the
+-- first of them is named.
+use mathlib.Core.Path.{_≡_}
+use mathlib.Core.List.{List, [], _∷_, _++_, map}
+use Prim.Native.Nat.{ℕ}
+use lib.ListN.{length, replicate}
+use Rattle.tables.specs.Table.{at}
+use Rattle.shot.specs.Witness.{two, one, both, uneven}
+use Rattle.host.specs.Accuracy.{written}
+use Rattle.host.specs.CurveBytes.{curveBytes}
+use Rattle.host.specs.Host.{Outcome, CurveCall, curveOutcome, ColourCall, colourOutcome}
+
+-- A run for a curve, with bytes in it that are no curve.
+unfoldable pub run : List ℕ
+run = replicate 1532 9
+
+-- A curve call with a strip, a choice and a run.
+abbrev pub curve : List ℕ → ℕ → List ℕ → CurveCall
+curve strip choice run = record { strip = strip; choice = choice; curve = run }
+
+-- (curve uneven 3 []) breaks 4, 10 and 2.
+unfoldable pub curveCalls : List CurveCall
+curveCalls =
+    curve uneven 3 []
+    ∷ curve uneven 1 []
+    ∷ curve uneven 1 run
+    ∷ curve [] 1 run
+    ∷ curve two 1 run
+    ∷ curve two 2 run
+    ∷ []
+
+-- The bytes, in what a call leaves, of the entries for the sums 59, 60, 629 and 630.
+abbrev pub bytesAround : Outcome → List ℕ
+bytesAround o = map (at (o .bytes)) (118 ∷ 119 ∷ 120 ∷ 121 ∷ 1258 ∷ 1259 ∷ 1260 ∷ 1261 ∷ [])
+
+-- The bytes of a curve that is 120 for every sum from 1 to 764.
+unfoldable pub level : List ℕ
+level = curveBytes (0 ∷ replicate 764 120 ++ (765 ∷ []))
+
+-- A colour call with a curve, a method, a source and a destination.
+abbrev pub colour : List ℕ → ℕ → List ℕ → List ℕ → ColourCall
+colour curve method source destination =
+    record { curve = curve; method = method; source = source; destination = destination }
+
+-- (colour one 3 uneven one) breaks 10, 7, 2 and 8.
+unfoldable pub colourCalls : List ColourCall
+colourCalls =
+    colour one 3 uneven one
+    ∷ colour run 3 uneven one
+    ∷ colour level 3 uneven one
+    ∷ colour level 2 uneven one
+    ∷ colour level 2 two one
+    ∷ colour level 1 two both
+    ∷ colour level 2 two both
+    ∷ colour level 1 [] []
+    ∷ []
+
+-- Claim: so these calls run. Proved: proofs/Witness.antt, `witness-runs`.
+pub record WitnessRuns : Type 0 where
+  pub curveNumbers : map (λ c. curveOutcome c .number) curveCalls ≡ 4 ∷ 10 ∷ 2 ∷ 5 ∷ 0 ∷ 0 ∷ []
+  pub untouched : curveOutcome (curve uneven 1 run) .bytes ≡ run
+  -- the strip has a pixel of the sum 60 and one of the sum 630; the cube curve's entries there are 0, 382, 382 and 765, the
+  -- equalised one's 0, 383, 383 and 765
+  pub cube : bytesAround (curveOutcome (curve two 1 run)) ≡ 0 ∷ 0 ∷ 126 ∷ 1 ∷ 126 ∷ 1 ∷ 253 ∷ 2 ∷ []
+  pub equalised : bytesAround (curveOutcome (curve two 2 run)) ≡ 0 ∷ 0 ∷ 127 ∷ 1 ∷ 127 ∷ 1 ∷ 253 ∷ 2 ∷ []
+  pub colourNumbers : map (λ c. colourOutcome c .number) colourCalls ≡ 10 ∷ 11 ∷ 7 ∷ 2 ∷ 8 ∷ 0 ∷ 0 ∷ 0 ∷ []
+  pub pixels : map (λ c. length (written c)) colourCalls ≡ 0 ∷ 0 ∷ 0 ∷ 0 ∷ 0 ∷ 2 ∷ 2 ∷ 0 ∷ []
+  pub colourBytes : map (λ c. colourOutcome c .bytes) colourCalls
+      ≡ one
+      ∷ one
+      ∷ one
+      ∷ one
+      ∷ one
+      ∷ (31 ∷ 40 ∷ 49 ∷ 38 ∷ 40 ∷ 42 ∷ [])
+      ∷ (20 ∷ 40 ∷ 60 ∷ 36 ∷ 40 ∷ 44 ∷ [])
+      ∷ []
+      ∷ []

@@ -16,10 +16,10 @@
  * - Nothing is kept between calls, and nothing is allocated. Calls may run side by side in several threads if no call writes into
  *   a run that is lent to another. A call needs at most 64 KiB of stack.
  *
- * A curve travels as CUBE_BALANCE_CURVE_LENGTH bytes. It has an entry for each sum s of a pixel's three samples, 0 to 765, entry 0 first,
- * two bytes an entry, low byte first: entry s is curve[2 * s] + 256 * curve[2 * s + 1]. It is the sum to which a pixel of sum s is
- * moved. A curve is accepted only if entry 0 is 0, entry 765 is 765, none exceeds 765 and none is less than the one before;
- * what cube_balance_curve writes always is.
+ * A curve travels as CUBE_BALANCE_CURVE_LENGTH bytes. It has an entry for each sum s of a pixel's three samples, 0 to 765, entry 0
+ * first, two bytes an entry, low byte first: entry s is curve[2 * s] + 256 * curve[2 * s + 1], the sum to which a pixel of sum s is
+ * moved. A curve is accepted only if entry 0 is 0, entry 765 is 765, none exceeds 765 and none is less than the one before; what
+ * cube_balance_curve writes always is.
  *
  * Balancing one frame by itself:
  *
@@ -44,7 +44,7 @@
 extern "C" {
 #endif
 
-/* The bytes of a curve, and the most pixels that a strip may have. */
+/* The bytes of a curve, and the most pixels of which cube_balance_curve makes one. (Colouring has no such limit.) */
 #define CUBE_BALANCE_CURVE_LENGTH 1532
 #define CUBE_BALANCE_PIXEL_LIMIT 16777216
 

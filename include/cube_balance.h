@@ -56,7 +56,10 @@ extern "C" {
 #define CUBE_BALANCE_NAIK_MURTHY 1
 #define CUBE_BALANCE_YANG_LEE 2
 
-/* What a call hands back: accepted, or the number of the first refusal that applies. */
+/*
+ * What a call hands back: accepted, or the number of the first refusal that applies. (The numbers 1, 6, 9 and 12 to 16 belong to
+ * calls that C does not have.)
+ */
 #define CUBE_BALANCE_ACCEPTED 0
 #define CUBE_BALANCE_LENGTH_NOT_THREES 2   /* the length of the strip, or of the source, is not a multiple of 3 */
 #define CUBE_BALANCE_TOO_MANY_PIXELS 3     /* the strip has more than CUBE_BALANCE_PIXEL_LIMIT pixels */

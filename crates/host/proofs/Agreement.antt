@@ -1,5 +1,5 @@
 -- The host's calls do what a shot's do.
-use mathlib.Core.Path.{_≡_, refl, sym, ap, _∙_}
+use mathlib.Core.Path.{_≡_, refl, sym, ap, subst, _∙_}
 use mathlib.Core.Bool.{true, false}
 use mathlib.Core.List.{List, [], _∷_}
 use Prim.Native.Nat.{ℕ, _+_, _/_}
@@ -10,18 +10,18 @@ use Rattle.pixel.specs.Methods.{isMethod}
 use Rattle.pixel.specs.Strip.{isWhole, Bytes}
 use Rattle.curve.specs.Curve.{IsToneCurve}
 use Rattle.shot.specs.Book.{curveOf}
+use Rattle.shot.specs.Inner.{WholeShot}
 use Rattle.shot.specs.Shot.{pixelLimit, opened, measured, fixedWith, coloured}
 use Rattle.shot.proofs.OneStrip.{strip-accepted, fix-accepted, is-fixed, curve-is, curve-shape}
 use Rattle.shot.proofs.Passed.{measure-passed, fix-passed}
-use Rattle.host.specs.Agreement.{measuredShot, fixedShot, Accepted, HostFollowsShot}
+use Rattle.host.specs.Agreement.{measureAnswer, fixAnswer, Accepted, colourBy, HostFollowsShot}
 use Rattle.host.specs.CurveBytes.{curveLength, curveBytes, curveEntries, isToneCurve}
-use Rattle.host.specs.Host.{CurveCall, curveOutcome, ColourCall, colourOutcome}
-use Rattle.host.specs.Inner.{WholeShot}
+use Rattle.host.specs.Host.{CurveCall, curveOutcome, colourOutcome}
 use Rattle.host.proofs.CurveBytes.{length-bytes, read-back, curve-complete}
 use Rattle.host.proofs.Passed.{curve-passed}
 
 -- an accepted curve call passed its checks
-accepted : (c : CurveCall) → Accepted c → (length (c .curve) ≡ curveLength) × WholeShot (length (c .strip)) (c .choice)
+pub accepted : (c : CurveCall) → Accepted c → (length (c .curve) ≡ curveLength) × WholeShot (length (c .strip)) (c .choice)
 unfolding curveOutcome
 accepted c e = curve-passed (c .choice) (length (c .curve)) (length (c .strip)) e
 
@@ -34,62 +34,63 @@ module _ (c : CurveCall) (bytes : Bytes (c .strip)) (e : Accepted c) where
   ok : WholeShot (length (c .strip)) (c .choice)
   ok = accepted c e .1
 
-  measures : measuredShot c .number ≡ 0
-  measures = strip-accepted (c .strip) bytes (ok .whole) (ok .limit)
+  measures : measureAnswer c .number ≡ 0
+  measures = strip-accepted (c .strip) bytes (c .choice) ok
 
-  fixes : fixedShot c .number ≡ 0
-  fixes = fix-accepted (c .strip) bytes (ok .whole) (ok .limit) (ok .some) (c .choice) (ok .known)
+  fixes : fixAnswer c .number ≡ 0
+  fixes = fix-accepted (c .strip) bytes (c .choice) ok
 
-  fixed : fixedShot c .shot .fixed ≡ true
-  fixed = is-fixed (c .strip) bytes (ok .whole) (ok .limit) (ok .some) (c .choice) (ok .known)
+  fixed : fixAnswer c .shot .fixed ≡ true
+  fixed = is-fixed (c .strip) bytes (c .choice) ok
 
-  same-curve : fixedShot c .shot .curve ≡ curveOf (c .choice) (c .strip ∷ [])
-  same-curve = curve-is (c .strip) bytes (ok .whole) (ok .limit) (ok .some) (c .choice) (ok .known)
+  same-curve : fixAnswer c .shot .curve ≡ curveOf (c .choice) (c .strip ∷ [])
+  same-curve = curve-is (c .strip) bytes (c .choice) ok
 
   shape : IsToneCurve (curveOf (c .choice) (c .strip ∷ []))
-  shape = curve-shape (c .strip) bytes (ok .whole) (ok .limit) (ok .some) (c .choice) (ok .known)
+  shape = curve-shape (c .strip) bytes (c .choice) ok
 
   -- it writes the shot's curve
-  writes : curveOutcome c .bytes ≡ curveBytes (fixedShot c .shot .curve)
+  writes : curveOutcome c .bytes ≡ curveBytes (fixAnswer c .shot .curve)
   writes = bytes-are c e ∙ ap curveBytes (sym same-curve)
 
   -- which is read back
-  entries-are : curveEntries (curveOutcome c .bytes) ≡ fixedShot c .shot .curve
-  entries-are = ap curveEntries writes ∙ read-back (fixedShot c .shot .curve)
+  entries-are : curveEntries (curveOutcome c .bytes) ≡ fixAnswer c .shot .curve
+  entries-are = ap curveEntries writes ∙ read-back (fixAnswer c .shot .curve)
 
-  size : length (curveOutcome c .bytes) ≡ curveLength
-  size = ap length (bytes-are c e) ∙ omega (arith, length-bytes (curveOf (c .choice) (c .strip ∷ [])), shape .size)
+  pub written-size : length (curveOutcome c .bytes) ≡ curveLength
+  written-size = ap length (bytes-are c e) ∙ omega (arith, length-bytes (curveOf (c .choice) (c .strip ∷ [])), shape .size)
+
+  pub written-shape : IsToneCurve (curveEntries (curveOutcome c .bytes))
+  written-shape = subst IsToneCurve (sym (entries-are ∙ same-curve)) shape
 
   ruled : isToneCurve (curveEntries (curveOutcome c .bytes)) ≡ true
-  ruled = ap isToneCurve (entries-are ∙ same-curve) ∙ curve-complete (curveOf (c .choice) (c .strip ∷ [])) shape
+  ruled = curve-complete (curveEntries (curveOutcome c .bytes)) written-shape
 
-  -- the colour call takes it, and does what the shot's colouring does
+  -- the colour call accepts it, and does what the shot's colouring does
   module _ (method : ℕ) (source destination : List ℕ) where
-    abbrev call : ColourCall
-    call = record { curve = curveOutcome c .bytes; method = method; source = source; destination = destination }
-
-    taken : isMethod method ≡ true → isWhole (length source) ≡ true → length destination ≡ length source → colourOutcome call .number ≡ 0
+    curve-accepted : isMethod method ≡ true → isWhole (length source) ≡ true → length destination ≡ length source
+        → colourOutcome (colourBy c method source destination) .number ≡ 0
     unfolding colourOutcome
-    taken known whole same =
-        rw (eq-eqb (length (curveOutcome c .bytes)) curveLength size, ruled, known, whole, eq-eqb (length destination) (length source) same) refl
+    curve-accepted known whole same =
+        rw (eq-eqb (length (curveOutcome c .bytes)) curveLength written-size, ruled, known, whole, eq-eqb (length destination) (length source) same) refl
 
-    colours : colourOutcome call
-        ≡ (let o = coloured (fixedShot c .shot) (record { method = method; source = source; destination = destination }) in
+    colours : colourOutcome (colourBy c method source destination)
+        ≡ (let o = coloured (fixAnswer c .shot) (record { method = method; source = source; destination = destination }) in
         record { number = o .answer .number; bytes = o .bytes })
     unfolding colourOutcome coloured
-    colours = rw (eq-eqb (length (curveOutcome c .bytes)) curveLength size, ruled, entries-are, fixed) refl
+    colours = rw (eq-eqb (length (curveOutcome c .bytes)) curveLength written-size, ruled, entries-are, fixed) refl
 
 -- a measured shot has the strip's pixels
-pixels-are : (c : CurveCall) → measuredShot c .number ≡ 0 → measuredShot c .shot .pixels ≡ 0 + length (c .strip) / 3
+pixels-are : (c : CurveCall) → measureAnswer c .number ≡ 0 → measureAnswer c .shot .pixels ≡ 0 + length (c .strip) / 3
 unfolding measured opened
-pixels-are c e = rw (eq-eqb (measuredShot c .number) 0 e) refl
+pixels-are c e = rw (eq-eqb (measureAnswer c .number) 0 e) refl
 
 -- what opening, measuring and fixing accept, the curve call accepts
-accepts : (c : CurveCall) → length (c .curve) ≡ curveLength → measuredShot c .number ≡ 0 → fixedShot c .number ≡ 0 → Accepted c
+accepts : (c : CurveCall) → length (c .curve) ≡ curveLength → measureAnswer c .number ≡ 0 → fixAnswer c .number ≡ 0 → Accepted c
 unfolding curveOutcome measured fixedWith opened
 accepts c size measured-it fixed-it =
     let m = measure-passed false 0 (length (c .strip)) measured-it in
-    let f = fix-passed (measuredShot c .shot .fixed) (c .choice) (measuredShot c .shot .pixels) fixed-it in
+    let f = fix-passed (measureAnswer c .shot .fixed) (c .choice) (measureAnswer c .shot .pixels) fixed-it in
     rw (
       f .known,
       eq-eqb (length (c .curve)) curveLength size,
@@ -100,4 +101,11 @@ accepts c size measured-it fixed-it =
 
 pub host-follows-shot : HostFollowsShot
 host-follows-shot =
-    record { measures = measures; fixes = fixes; accepts = accepts; curve = writes; taken = taken; colours = colours }
+    record {
+      measures = measures;
+      fixes = fixes;
+      accepts = accepts;
+      curve = writes;
+      curveAccepted = curve-accepted;
+      colours = colours;
+    }

@@ -10,8 +10,9 @@ use lib.Dec.{leb, eqb}
 use lib.ListN.{length}
 use Rattle.tables.specs.Table.{at}
 use Rattle.tables.proofs.Cases.{true-false, either}
+use Rattle.pixel.specs.Strip.{Bytes}
 use Rattle.curve.specs.Curve.{IsToneCurve}
-use Rattle.host.specs.CurveBytes.{curveBytes, curveEntries, noneExceeds, noneFalls, isToneCurve, CurvesTravel}
+use Rattle.host.specs.CurveBytes.{curveBytes, curveEntries, noneExceeds, noneFalls, isToneCurve, TestIsTheRule, CurvesTravel}
 
 -- Two bytes an entry.
 pub length-bytes : (curve : List ℕ) → length (curveBytes curve) ≡ 2 * length curve
@@ -63,6 +64,15 @@ pub read-back : (curve : List ℕ) → curveEntries (curveBytes curve) ≡ curve
 unfolding curveBytes curveEntries
 read-back [] = refl
 read-back (entry ∷ entries) = ap₂ _∷_ (omega arith) (read-back entries)
+
+-- and so does writing what was read
+written-back : (bytes : List ℕ) → length bytes % 2 ≡ 0 → Bytes bytes → curveBytes (curveEntries bytes) ≡ bytes
+unfolding curveBytes curveEntries
+written-back [] even small = refl
+written-back (low ∷ []) even small = absurd (omega arith)
+written-back (low ∷ high ∷ bytes) even small =
+    ap₂ _∷_ (omega (arith, small 0))
+    (ap₂ _∷_ (omega (arith, small 0)) (written-back bytes (omega arith) (λ i. small (suc (suc i)))))
 
 -- both tests hold
 both : (t u : Bool) → (t && u) ≡ true → (t ≡ true) × (u ≡ true)
@@ -184,6 +194,9 @@ curve-complete curve h =
       falls-complete 0 curve (λ k l. omega arith, λ s t le l. h .rises s t le (omega arith)),
     ) refl
 
+pub test-is-the-rule : TestIsTheRule
+test-is-the-rule = record { sound = curve-sound; complete = curve-complete }
+
 pub curves-travel : CurvesTravel
 curves-travel =
-    record { sound = curve-sound; complete = curve-complete; size = length-bytes; back = read-back }
+    record { size = length-bytes; entries = read-back; bytes = λ bytes size small. written-back bytes (omega arith) small }

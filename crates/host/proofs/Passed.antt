@@ -1,10 +1,10 @@
 -- What an accepted call has passed.
-use mathlib.Core.Path.{_≡_}
+use mathlib.Core.Path.{_≡_, refl}
 use mathlib.Core.Bool.{true, not}
 use mathlib.Core.List.{List}
 use Prim.Native.Nat.{ℕ, _/_}
 use native.Mathlib.Omega.{arith}
-use borrow.Author.Tests.{not-false, ltb-false, eqb-false, eqb-true}
+use borrow.Author.Tests.{not-false, ltb-false, eqb-false, eqb-true, eq-eqb}
 use lib.Dec.{ltb, eqb}
 use lib.ListN.{length}
 use Rattle.refusal.specs.Refusal.{firstOf}
@@ -13,10 +13,10 @@ use Rattle.pixel.specs.Methods.{isMethod}
 use Rattle.pixel.specs.Strip.{isWhole}
 use Rattle.curve.specs.Choices.{isChoice}
 use Rattle.curve.specs.Curve.{IsToneCurve}
+use Rattle.shot.specs.Inner.{WholeShot}
 use Rattle.shot.specs.Shot.{pixelLimit}
 use Rattle.host.specs.CurveBytes.{curveLength, curveEntries, isToneCurve}
-use Rattle.host.specs.Host.{curveChecks, colourChecks}
-use Rattle.host.specs.Inner.{WholeShot}
+use Rattle.host.specs.Host.{curveChecks, entriesChecks, colourChecks}
 use Rattle.host.proofs.CurveBytes.{length-entries, curve-sound}
 
 pub curve-passed : (choice curve strip : ℕ) → firstOf (curveChecks choice curve strip) ≡ 0 → (curve ≡ curveLength) × WholeShot strip choice
@@ -58,3 +58,8 @@ colour-passed curve method source destination e =
       whole = not-false _ whole;
       same = eqb-true _ _ (not-false _ same);
     }
+
+-- where a curve has its length, its entries decide
+pub sized-checks : (curve : List ℕ) (method source destination : ℕ) → length curve ≡ curveLength
+    → firstOf (entriesChecks (curveEntries curve) method source destination) ≡ firstOf (colourChecks curve method source destination)
+sized-checks curve method source destination size = rw (eq-eqb (length curve) curveLength size) refl

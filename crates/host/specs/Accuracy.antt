@@ -11,7 +11,15 @@ use Rattle.pixel.specs.Strip.{Bytes}
 use Rattle.curve.specs.Curve.{IsToneCurve}
 use Rattle.colouring.specs.Written.{Written, WrittenExact, WrittenAccurate, pixelsWritten, AtMostTwoBelow}
 use Rattle.host.specs.CurveBytes.{curveEntries}
-use Rattle.host.specs.Host.{ColourCall, colourOutcome}
+use Rattle.host.specs.Host.{CurveCall, curveOutcome, ColourCall, colourOutcome}
+
+-- What holds of a curve call.
+pub record CurveAccurate (c : CurveCall) : Type 0 where
+  -- it leaves the run as long as it was, and a refused one leaves every byte of it
+  pub size : length (curveOutcome c .bytes) ≡ length (c .curve)
+  pub untouched : (curveOutcome c .number ≡ 0 → ⊥) → curveOutcome c .bytes ≡ c .curve
+  -- an accepted one leaves a tone curve in it
+  pub shape : curveOutcome c .number ≡ 0 → IsToneCurve (curveEntries (curveOutcome c .bytes))
 
 -- The pixels that a host colouring writes: those of an accepted one, each with the entry, for its sum, of the curve handed in. A refused
 -- one writes none.
@@ -33,9 +41,11 @@ pub record ColouringAccurate (c : ColourCall) : Type 0 where
   -- "every pixel written keeps four rules"
   pub rules : (w : Written) → w among written c → WrittenAccurate w
 
--- Claim: demand 3 for the host. A source is bytes; all else that a call brings is any. Proved: proofs/Accuracy.antt, `host-accurate`.
+-- Claim: demand 3 for the host. Strips and sources are bytes; all else that a call brings is any.
+-- Proved: proofs/Accuracy.antt, `host-accurate`.
 pub record HostAccurate : Type 0 where
-  pub each : (c : ColourCall) → Bytes (c .source) → ColouringAccurate c
+  pub curves : (c : CurveCall) → Bytes (c .strip) → CurveAccurate c
+  pub colourings : (c : ColourCall) → Bytes (c .source) → ColouringAccurate c
   -- "and of any two pixels of the same shot, whichever colourings and methods wrote them, the one whose input sum is no smaller has
   -- a sum at most two below the other's": here, pixels coloured by equal curves
   pub order : (c d : ColourCall) → Bytes (c .source) → Bytes (d .source) → curveEntries (c .curve) ≡ curveEntries (d .curve)

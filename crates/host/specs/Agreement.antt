@@ -1,4 +1,4 @@
--- The host's calls and a shot's: "the curve of that strip taken as a whole shot" (document 01, "The panel's host").
+-- The host's calls beside a shot's: "the curve of that strip taken as a whole shot" (document 01, "The panel's host").
 use mathlib.Core.Bool.{true}
 use mathlib.Core.List.{List}
 use mathlib.Core.Path.{_≡_}
@@ -9,33 +9,39 @@ use Rattle.pixel.specs.Strip.{isWhole, Bytes}
 use Rattle.shot.specs.Shot.{opened, measured, fixedWith, coloured}
 use Rattle.shot.specs.declared.Answer.{Answer}
 use Rattle.host.specs.CurveBytes.{curveLength, curveBytes}
-use Rattle.host.specs.Host.{CurveCall, curveOutcome, colourOutcome}
+use Rattle.host.specs.Host.{CurveCall, curveOutcome, ColourCall, colourOutcome}
 
--- A shot opened, measured by the call's strip and fixed by its choice.
-abbrev pub measuredShot : CurveCall → Answer
-measuredShot c = measured opened (c .strip)
+-- What an opened shot's measuring of the call's strip hands back.
+abbrev pub measureAnswer : CurveCall → Answer
+measureAnswer c = measured opened (c .strip)
 
-abbrev pub fixedShot : CurveCall → Answer
-fixedShot c = fixedWith (measuredShot c .shot) (c .choice)
+-- What fixing that shot by the call's choice then hands back.
+abbrev pub fixAnswer : CurveCall → Answer
+fixAnswer c = fixedWith (measureAnswer c .shot) (c .choice)
 
 -- The curve call was accepted.
 abbrev pub Accepted : CurveCall → Type 0
 Accepted c = curveOutcome c .number ≡ 0
 
--- Claim: the host's calls do what a shot's do. Proved: proofs/Agreement.antt, `host-follows-shot`.
+-- A colour call by the curve that the curve call wrote.
+abbrev pub colourBy : CurveCall → ℕ → List ℕ → List ℕ → ColourCall
+colourBy c method source destination =
+    record { curve = curveOutcome c .bytes; method = method; source = source; destination = destination }
+
+-- Claim: so the host's calls agree with a shot's. Proved: proofs/Agreement.antt, `host-follows-shot`.
 pub record HostFollowsShot : Type 0 where
-  -- the curve call accepts what opening, measuring and fixing accept, where the run for the curve is 1,532 bytes long
-  pub measures : (c : CurveCall) → Bytes (c .strip) → Accepted c → measuredShot c .number ≡ 0
-  pub fixes : (c : CurveCall) → Bytes (c .strip) → Accepted c → fixedShot c .number ≡ 0
-  pub accepts : (c : CurveCall) → length (c .curve) ≡ curveLength → measuredShot c .number ≡ 0 → fixedShot c .number ≡ 0 → Accepted c
-  -- and writes the curve that they give
-  pub curve : (c : CurveCall) → Bytes (c .strip) → Accepted c → curveOutcome c .bytes ≡ curveBytes (fixedShot c .shot .curve)
+  -- with a run of 1,532 bytes, the curve call accepts exactly what measuring and fixing a newly opened shot accept
+  pub measures : (c : CurveCall) → Bytes (c .strip) → Accepted c → measureAnswer c .number ≡ 0
+  pub fixes : (c : CurveCall) → Bytes (c .strip) → Accepted c → fixAnswer c .number ≡ 0
+  pub accepts : (c : CurveCall) → length (c .curve) ≡ curveLength → measureAnswer c .number ≡ 0 → fixAnswer c .number ≡ 0 → Accepted c
+  -- it writes the curve that these give
+  pub curve : (c : CurveCall) → Bytes (c .strip) → Accepted c → curveOutcome c .bytes ≡ curveBytes (fixAnswer c .shot .curve)
   -- the colour call always accepts that curve
-  pub taken : (c : CurveCall) → Bytes (c .strip) → Accepted c → (method : ℕ) (source destination : List ℕ)
+  pub curveAccepted : (c : CurveCall) → Bytes (c .strip) → Accepted c → (method : ℕ) (source destination : List ℕ)
       → isMethod method ≡ true → isWhole (length source) ≡ true → length destination ≡ length source
-      → colourOutcome (record { curve = curveOutcome c .bytes; method = method; source = source; destination = destination }) .number ≡ 0
+      → colourOutcome (colourBy c method source destination) .number ≡ 0
   -- and then does what colouring from that shot does, whatever else it is lent
   pub colours : (c : CurveCall) → Bytes (c .strip) → Accepted c → (method : ℕ) (source destination : List ℕ)
-      → colourOutcome (record { curve = curveOutcome c .bytes; method = method; source = source; destination = destination })
-      ≡ (let o = coloured (fixedShot c .shot) (record { method = method; source = source; destination = destination }) in
+      → colourOutcome (colourBy c method source destination)
+      ≡ (let o = coloured (fixAnswer c .shot) (record { method = method; source = source; destination = destination }) in
       record { number = o .answer .number; bytes = o .bytes })

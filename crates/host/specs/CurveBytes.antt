@@ -6,6 +6,7 @@ use Prim.Native.Nat.{ℕ, _+_, _*_, _/_, _%_}
 use lib.Dec.{leb, eqb}
 use lib.ListN.{length}
 use Rattle.tables.specs.Table.{at}
+use Rattle.pixel.specs.Strip.{Bytes}
 use Rattle.curve.specs.Curve.{IsToneCurve}
 
 -- A curve travels as 1,532 bytes.
@@ -38,10 +39,14 @@ noneFalls before (entry ∷ entries) = leb before entry && noneFalls entry entri
 unfoldable pub isToneCurve : List ℕ → Bool
 isToneCurve curve = eqb (at curve 0) 0 && eqb (at curve 765) 765 && noneExceeds curve && noneFalls 0 curve
 
--- Claim: 766 entries pass that test exactly if they are a tone curve, and reading a curve's bytes gives the curve back.
--- Proved: proofs/CurveBytes.antt, `curves-travel`.
-pub record CurvesTravel : Type 0 where
+-- Claim: 766 entries pass that test exactly if they are a tone curve. Proved: proofs/CurveBytes.antt, `test-is-the-rule`.
+pub record TestIsTheRule : Type 0 where
   pub sound : (curve : List ℕ) → length curve ≡ 766 → isToneCurve curve ≡ true → IsToneCurve curve
   pub complete : (curve : List ℕ) → IsToneCurve curve → isToneCurve curve ≡ true
+
+-- Claim: a curve comes through its bytes, and 1,532 bytes come through their entries. So equal entries are equal bytes.
+-- Proved: proofs/CurveBytes.antt, `curves-travel`.
+pub record CurvesTravel : Type 0 where
   pub size : (curve : List ℕ) → length (curveBytes curve) ≡ 2 * length curve
-  pub back : (curve : List ℕ) → curveEntries (curveBytes curve) ≡ curve
+  pub entries : (curve : List ℕ) → curveEntries (curveBytes curve) ≡ curve
+  pub bytes : (bytes : List ℕ) → length bytes ≡ curveLength → Bytes bytes → curveBytes (curveEntries bytes) ≡ bytes

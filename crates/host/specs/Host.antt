@@ -18,9 +18,9 @@ pub record Outcome : Type 0 where
   pub number : ℕ
   pub bytes : List ℕ
 
--- An accepted call writes these bytes. A refused one touches none of those before.
-abbrev pub left : ℕ → List ℕ → List ℕ → Outcome
-left number written before = record { number = number; bytes = cond (eqb number 0) written before }
+-- An accepted call writes these bytes. After a refused one the run holds what it held before.
+abbrev pub outcomeOf : ℕ → List ℕ → List ℕ → Outcome
+outcomeOf number written before = record { number = number; bytes = cond (eqb number 0) written before }
 
 -- What the curve call brings: a strip, a choice, and what the run for the curve holds.
 pub record CurveCall : Type 0 where
@@ -36,13 +36,14 @@ curveRefusals known sized whole empty over =
 
 -- The same, from the choice and the lengths of curve and strip.
 abbrev pub curveChecks : ℕ → ℕ → ℕ → List Check
-curveChecks choice curve strip =
-    curveRefusals (isChoice choice) (eqb curve curveLength) (isWhole strip) (eqb strip 0) (ltb pixelLimit (strip / 3))
+curveChecks choice curveSize stripSize =
+    curveRefusals (isChoice choice) (eqb curveSize curveLength) (isWhole stripSize) (eqb stripSize 0)
+    (ltb pixelLimit (stripSize / 3))
 
 -- "One call takes a strip and a choice and writes the curve of that strip taken as a whole shot": the book's curve of this one strip.
 unfoldable pub curveOutcome : CurveCall → Outcome
 curveOutcome c =
-    left (firstOf (curveChecks (c .choice) (length (c .curve)) (length (c .strip))))
+    outcomeOf (firstOf (curveChecks (c .choice) (length (c .curve)) (length (c .strip))))
     (curveBytes (curveOf (c .choice) (c .strip ∷ [])))
     (c .curve)
 
@@ -53,21 +54,25 @@ pub record ColourCall : Type 0 where
   pub source : List ℕ
   pub destination : List ℕ
 
--- Host colour 10, 11, 7, 2, 8. 10: a curve's bytes are not 1,532 long. 11: the curve breaks the rule. 7: the method is not 1 or 2. 2: the
--- source's length is not a multiple of 3. 8: destination and source differ in length.
-abbrev pub colourRefusals : Bool → Bool → Bool → Bool → Bool → List Check
-colourRefusals sized ruled known whole same =
-    not sized refuses 10 ∷ not ruled refuses 11 ∷ not known refuses 7 ∷ not whole refuses 2 ∷ not same refuses 8 ∷ []
+-- Host colour 11, 7, 2, 8. 11: the curve breaks the rule. 7: the method is not 1 or 2. 2: the source's length is not a multiple of 3.
+-- 8: destination and source differ in length.
+abbrev pub colourRefusals : Bool → Bool → Bool → Bool → List Check
+colourRefusals accepted known whole same =
+    not accepted refuses 11 ∷ not known refuses 7 ∷ not whole refuses 2 ∷ not same refuses 8 ∷ []
 
--- The same, from the curve's bytes, the method and the lengths of source and destination.
+-- The same, from the curve's entries, the method and the lengths of source and destination.
+abbrev pub entriesChecks : List ℕ → ℕ → ℕ → ℕ → List Check
+entriesChecks entries method sourceSize destinationSize =
+    colourRefusals (isToneCurve entries) (isMethod method) (isWhole sourceSize) (eqb destinationSize sourceSize)
+
+-- Before them 10, so that the order is 10, 11, 7, 2, 8: a curve's bytes are not 1,532 long.
 abbrev pub colourChecks : List ℕ → ℕ → ℕ → ℕ → List Check
-colourChecks curve method source destination =
-    colourRefusals (eqb (length curve) curveLength) (isToneCurve (curveEntries curve)) (isMethod method) (isWhole source)
-    (eqb destination source)
+colourChecks curve method sourceSize destinationSize =
+    not (eqb (length curve) curveLength) refuses 10 ∷ entriesChecks (curveEntries curve) method sourceSize destinationSize
 
 -- "The other takes a curve, a method, a source and a destination and colours."
 unfoldable pub colourOutcome : ColourCall → Outcome
 colourOutcome c =
-    left (firstOf (colourChecks (c .curve) (c .method) (length (c .source)) (length (c .destination))))
+    outcomeOf (firstOf (colourChecks (c .curve) (c .method) (length (c .source)) (length (c .destination))))
     (colouredStrip (methodOf (c .method)) (curveEntries (c .curve)) (c .source))
     (c .destination)

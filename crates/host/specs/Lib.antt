@@ -3,4 +3,3 @@ pub mod Host
 pub mod Agreement
 pub mod Accuracy
 pub mod Witness
-pub mod Inner

@@ -1,15 +1,10 @@
 // The calls for the panel's host program, which is written in C (document 01, "The panel's host"). They keep nothing between calls.
 ghost use mathlib.Core.Path.{_≡_};
 ghost use Prim.Native.Nat.{_+_, _*_, _/_, _%_};
-ghost use mathlib.Core.Bool.{true};
-ghost use mathlib.Core.List.{[], _∷_};
 ghost use lib.ListN.{length};
 ghost use Rattle.refusal.specs.Refusal.{firstOf};
-ghost use Rattle.shot.specs.Book.{curveOf};
 ghost use Rattle.host.specs.CurveBytes.{curveLength, curveBytes, curveEntries, noneFalls, isToneCurve};
-ghost use Rattle.host.specs.Host.{curveRefusals, curveChecks, curveOutcome, colourRefusals, colourChecks, colourOutcome};
-ghost use Rattle.host.specs.Inner.{WholeShot};
-use shot::Shot;
+ghost use Rattle.host.specs.Host.{curveRefusals, curveChecks, curveOutcome, colourRefusals, entriesChecks, colourOutcome};
 
 // A curve travels as so many bytes.
 const CURVE_LENGTH: usize = 1532;
@@ -63,7 +58,7 @@ fn read_curve(bytes: &[u8]) -> [u16; 766]
     curve
 }
 
-// Whether no entry is less than the one before.
+// Whether no entry is less than the one before. (A curve goes in by value: of a lent array the proof would not know the length.)
 fn none_falls(curve: [u16; 766]) -> bool
     ensures { λ r. ⌜ r ≡ noneFalls 0 curve ⌝ }
 {
@@ -112,37 +107,24 @@ fn curve_refusal(known: bool, sized: bool, whole: bool, empty: bool, over: bool)
     0
 }
 
-// The answer for a choice, and a curve and a strip of these lengths.
-fn curve_number(choice: u32, curve: usize, strip: usize) -> u32
-    ensures { λ r. ⌜ r ≡ firstOf (curveChecks choice curve strip) ⌝ }
+// The answer for a choice, and the lengths of the run for the curve and of the strip.
+fn curve_number(choice: u32, run: usize, strip: usize) -> u32
+    ensures { λ r. ⌜ r ≡ firstOf (curveChecks choice run strip) ⌝ }
 {
     curve_refusal(
         curve::is_choice(choice),
-        curve == CURVE_LENGTH,
+        run == CURVE_LENGTH,
         strip % 3 == 0,
         strip == 0,
         shot::PIXEL_LIMIT < strip / 3,
     )
 }
 
-// The tone curve of a strip taken as a whole shot.
-fn whole_shot_curve(strip: &[u8], choice: u32) -> [u16; 766]
-    requires { ⌜ WholeShot (length (now strip)) choice ⌝ }
-    ensures { λ r. ⌜ r ≡ curveOf choice (now (strip .entry) ∷ []) ⌝ }
+// Host colour 11, 7, 2, 8, once the curve has its length: 0, or the number of the first that applies.
+fn colour_refusal(accepted: bool, known: bool, whole: bool, same: bool) -> u32
+    ensures { λ r. ⌜ r ≡ firstOf (colourRefusals accepted known whole same) ⌝ }
 {
-    let opened = Shot::open();
-    let measured = opened.measure(strip);
-    let full = measured.shot;
-    let fixed = full.fix(choice);
-    let last = fixed.shot;
-    last.fixed_curve()
-}
-
-// Host colour 11, 7, 2, 8, for a curve of 1,532 bytes: 0, or the number of the first that applies.
-fn colour_refusal(ruled: bool, known: bool, whole: bool, same: bool) -> u32
-    ensures { λ r. ⌜ r ≡ firstOf (colourRefusals true ruled known whole same) ⌝ }
-{
-    if !ruled {
+    if !accepted {
         return 11;
     }
     if !known {
@@ -157,15 +139,12 @@ fn colour_refusal(ruled: bool, known: bool, whole: bool, same: bool) -> u32
     0
 }
 
-// The answer for a curve, a method, and a source and a destination of these lengths.
-fn colour_number(curve: &[u8], method: u32, source: usize, destination: usize) -> u32
-    ensures { λ r. ⌜ r ≡ firstOf (colourChecks (now (curve .entry)) method source destination) ⌝ }
+// The answer for the entries of a curve, a method, and the lengths of source and destination.
+fn colour_number(curve: [u16; 766], method: u32, source: usize, destination: usize) -> u32
+    ensures { λ r. ⌜ r ≡ firstOf (entriesChecks curve method source destination) ⌝ }
 {
-    if curve.len() != CURVE_LENGTH {
-        return 10;
-    }
     colour_refusal(
-        is_tone_curve(read_curve(curve)),
+        is_tone_curve(curve),
         pixel::is_method(method),
         source % 3 == 0,
         destination == source,
@@ -178,10 +157,11 @@ pub extern "C" fn cube_balance_curve(strip: &[u8], choice: u32, curve: &mut [u8]
     ensures { λ r. ⌜ curveOutcome (record { strip = now (strip .entry); choice = choice; curve = now (curve .entry) }) ≡ record { number = r; bytes = now (curve .exit) } ⌝ }
 {
     let number = curve_number(choice, curve.len(), strip.len());
-    if number == 0 {
-        write_curve(whole_shot_curve(strip, choice), curve);
+    if number != 0 {
+        return number;
     }
-    number
+    write_curve(shot::whole_shot_curve(strip, choice), curve);
+    0
 }
 
 // Colours the source into the destination by a curve of 1,532 bytes. Refused: 10, 11, 7, 2, 8.
@@ -194,10 +174,14 @@ pub extern "C" fn cube_balance_colour(
 ) -> u32
     ensures { λ r. ⌜ colourOutcome (record { curve = now (curve .entry); method = method; source = now (source .entry); destination = now (destination .entry) }) ≡ record { number = r; bytes = now (destination .exit) } ⌝ }
 {
-    let number = colour_number(curve, method, source.len(), destination.len());
-    if number == 0 {
-        let entries = read_curve(curve);
-        colouring::colour_strip(&entries, pixel::method_of(method), source, destination);
+    if curve.len() != CURVE_LENGTH {
+        return 10;
     }
-    number
+    let entries = read_curve(curve);
+    let number = colour_number(entries, method, source.len(), destination.len());
+    if number != 0 {
+        return number;
+    }
+    colouring::colour_strip(&entries, pixel::method_of(method), source, destination);
+    0
 }

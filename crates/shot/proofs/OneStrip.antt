@@ -1,29 +1,33 @@
--- A shot that is opened, measured by one strip and fixed: for callers that make one.
+-- A shot that is opened, measured by one strip and fixed.
 use mathlib.Core.Path.{_≡_, refl, subst, _∙_}
 use mathlib.Core.Bool.{true}
 use mathlib.Core.List.{List, [], _∷_, append-nil}
 use mathlib.Core.Option.{none}
-use Prim.Native.Nat.{ℕ, _+_, _/_, _≤_, _<_}
+use Prim.Native.Nat.{ℕ, _+_, _<_}
 use native.Mathlib.Omega.{arith}
 use borrow.Author.Tests.{le-ltb, eq-eqb, ne-eqb}
 use lib.ListN.{length}
-use Rattle.pixel.specs.Strip.{isWhole, pixelsOf, Bytes}
+use Rattle.pixel.specs.Strip.{pixelsOf, Bytes}
 use Rattle.pixel.proofs.Strips.{whole-means, length-pixels}
-use Rattle.curve.specs.Choices.{isChoice}
 use Rattle.curve.specs.Curve.{IsToneCurve}
 use Rattle.shot.specs.Book.{Call.measuring, Call.fixing, Book, emptyBook, pixelsIn, curveOf, expectedAnswer, entered}
+use Rattle.shot.specs.Inner.{WholeShot}
 use Rattle.shot.specs.Shot.{pixelLimit, opened, measured, fixedWith}
 use Rattle.shot.specs.declared.Answer.{Answer}
 use Rattle.shot.proofs.Sound.{Sound, sound-opened, answers-agree, sound-step}
 
--- a strip of whole pixels within the limit
-module _ (strip : List ℕ) (bytes : Bytes strip) (whole : isWhole (length strip) ≡ true) (limit : length strip / 3 ≤ pixelLimit) where
-  -- what measuring it hands back
+module _ (strip : List ℕ) (bytes : Bytes strip) (choice : ℕ) (ok : WholeShot (length strip) choice) where
+  -- what measuring and then fixing hand back
   abbrev measuring-it : Answer
   measuring-it = measured opened strip
 
+  abbrev fixing-it : Answer
+  fixing-it = fixedWith (measuring-it .shot) choice
+
+  -- measuring accepts the strip
   strip-expected : expectedAnswer emptyBook (measuring strip) ≡ 0
-  strip-expected = rw (whole, le-ltb pixelLimit (0 + length (pixelsOf strip)) (omega (arith, length-pixels strip))) refl
+  strip-expected =
+      rw (ok .whole, le-ltb pixelLimit (0 + length (pixelsOf strip)) (omega (arith, length-pixels strip, ok .limit))) refl
 
   pub strip-accepted : measuring-it .number ≡ 0
   strip-accepted = answers-agree (sound-opened .represents) (measuring strip) ∙ strip-expected
@@ -36,30 +40,25 @@ module _ (strip : List ℕ) (bytes : Bytes strip) (whole : isWhole (length strip
   measured-sound =
       subst (Sound (measuring-it .shot)) (simp (eq-eqb _ 0 strip-expected)) (sound-step sound-opened (measuring strip) bytes)
 
-  -- with at least one pixel, by a choice
-  module _ (positive : 0 < length strip) (choice : ℕ) (known : isChoice choice ≡ true) where
-    -- what fixing hands back
-    abbrev fixing-it : Answer
-    fixing-it = fixedWith (measuring-it .shot) choice
+  -- fixing accepts the shot
+  some-pixels : 0 < length (pixelsIn (strip ∷ []))
+  some-pixels = simp append-nil (omega (arith, length-pixels strip, whole-means (length strip) (ok .whole), ok .some))
 
-    some-pixels : 0 < length (pixelsIn (strip ∷ []))
-    some-pixels = simp append-nil (omega (arith, length-pixels strip, whole-means (length strip) whole))
+  fix-expected : expectedAnswer book (fixing choice) ≡ 0
+  fix-expected = rw (ok .known, ne-eqb (length (pixelsIn (strip ∷ []))) 0 (λ e. omega (arith, some-pixels))) refl
 
-    fix-expected : expectedAnswer book (fixing choice) ≡ 0
-    fix-expected = rw (known, ne-eqb (length (pixelsIn (strip ∷ []))) 0 (λ e. omega (arith, some-pixels))) refl
+  pub fix-accepted : fixing-it .number ≡ 0
+  fix-accepted = answers-agree (measured-sound .represents) (fixing choice) ∙ fix-expected
 
-    pub fix-accepted : fixing-it .number ≡ 0
-    fix-accepted = answers-agree (measured-sound .represents) (fixing choice) ∙ fix-expected
+  fixed-sound : Sound (fixing-it .shot) (entered book (fixing choice))
+  fixed-sound = subst (Sound (fixing-it .shot)) (simp (eq-eqb _ 0 fix-expected)) (sound-step measured-sound (fixing choice) tt)
 
-    fixed-sound : Sound (fixing-it .shot) (entered book (fixing choice))
-    fixed-sound = subst (Sound (fixing-it .shot)) (simp (eq-eqb _ 0 fix-expected)) (sound-step measured-sound (fixing choice) tt)
+  -- the shot is then fixed, by the strip's curve
+  pub is-fixed : fixing-it .shot .fixed ≡ true
+  is-fixed = fixed-sound .represents .fixed
 
-    -- the shot is fixed, by the strip's curve
-    pub is-fixed : fixing-it .shot .fixed ≡ true
-    is-fixed = fixed-sound .represents .fixed
+  pub curve-is : fixing-it .shot .curve ≡ curveOf choice (strip ∷ [])
+  curve-is = fixed-sound .represents .curve _ refl
 
-    pub curve-is : fixing-it .shot .curve ≡ curveOf choice (strip ∷ [])
-    curve-is = fixed-sound .represents .curve _ refl
-
-    pub curve-shape : IsToneCurve (curveOf choice (strip ∷ []))
-    curve-shape = fixed-sound .curve _ refl
+  pub curve-shape : IsToneCurve (curveOf choice (strip ∷ []))
+  curve-shape = fixed-sound .curve _ refl

@@ -1,4 +1,4 @@
--- What the inner functions of this crate require; their callers show it. No outside call's contract cites these.
+-- What functions of this crate that no customer calls require; their callers show it. No outside call's contract cites these.
 use mathlib.Core.Bool.{true}
 use mathlib.Core.List.{List}
 use mathlib.Core.Path.{_≡_}
@@ -6,8 +6,17 @@ use Prim.Native.Nat.{ℕ, _+_, _/_, _^_, _≤_, _<_}
 use lib.ListN.{length}
 use Rattle.tables.specs.Table.{at}
 use Rattle.pixel.specs.Strip.{isWhole}
+use Rattle.curve.specs.Choices.{isChoice}
+use Rattle.shot.specs.Shot.{pixelLimit}
 
 -- The strip is made of whole pixels, and no count can pass 32 bits when they are added.
 pub record CountsFit (counts strip : List ℕ) : Type 0 where
   pub whole : isWhole (length strip) ≡ true
   pub fit : (s : ℕ) → s ≤ 765 → at counts s + length strip / 3 < 2 ^ 32
+
+-- A strip of this length makes a shot that can be fixed by the choice.
+pub record WholeShot (strip choice : ℕ) : Type 0 where
+  pub known : isChoice choice ≡ true
+  pub whole : isWhole strip ≡ true
+  pub some : 0 < strip
+  pub limit : strip / 3 ≤ pixelLimit

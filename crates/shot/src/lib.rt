@@ -1,10 +1,12 @@
 // A shot: opened empty, measured strip by strip, fixed once, and then used to colour strips (document 01, "The ground covered").
 ghost use mathlib.Core.Path.{_≡_};
-ghost use mathlib.Core.Bool.{true};
+ghost use mathlib.Core.List.{[], _∷_};
 ghost use Prim.Native.Nat.{_+_, _≤_};
 ghost use Rattle.refusal.specs.Refusal.{firstOf};
 ghost use Rattle.pixel.specs.Strip.{pixelsOf};
-ghost use Rattle.shot.specs.Inner.{CountsFit};
+ghost use lib.ListN.{length};
+ghost use Rattle.shot.specs.Book.{curveOf};
+ghost use Rattle.shot.specs.Inner.{CountsFit, WholeShot};
 ghost use Rattle.shot.specs.Reachable.{Reachable};
 ghost use Rattle.shot.specs.Shot.{pixelLimit, withPixels, opened, measureRefusals, measureChecks, measured, fixRefusals, fixChecks, fixedWith, colourRefusals, colourChecks, coloured};
 
@@ -185,14 +187,6 @@ impl Shot {
         Answer { shot, number }
     }
 
-    // The tone curve of a fixed shot. (Colouring lends it no further; the host's calls hand it on as bytes.)
-    pub fn fixed_curve(self) -> [u16; 766]
-        requires { ⌜ self .fixed ≡ true ⌝ }
-        ensures { λ r. ⌜ r ≡ self .curve ⌝ }
-    {
-        self.curve
-    }
-
     // Colours the source into the destination by the shot's curve, and hands the shot back as it is. Refused: 6, 7, 2, 8.
     pub fn colour(self, method: u32, source: &[u8], destination: &mut [u8]) -> Answer
         requires { ⌜ Reachable self ⌝ }
@@ -205,4 +199,18 @@ impl Shot {
         }
         Answer { shot: self, number }
     }
+}
+
+// The tone curve of a strip taken as a whole shot: for the host's calls, which keep no shot. What it requires is what measuring and
+// fixing check, so neither is refused.
+pub fn whole_shot_curve(strip: &[u8], choice: u32) -> [u16; 766]
+    requires { ⌜ WholeShot (length (now strip)) choice ⌝ }
+    ensures { λ r. ⌜ r ≡ curveOf choice (now (strip .entry) ∷ []) ⌝ }
+{
+    let opened = Shot::open();
+    let measured = opened.measure(strip);
+    let shot = measured.shot;
+    let fixed = shot.fix(choice);
+    let shot = fixed.shot;
+    shot.curve
 }

@@ -1,68 +1,92 @@
 -- `host::cube_balance_colour` meets its contract.
-use mathlib.Core.Path.{sym, ap, subst, _∙_}
+use mathlib.Core.Path.{_≡_, refl, sym, ap, subst, _∙_}
 use mathlib.Core.List.{List}
 use Prim.Native.Nat.{ℕ}
+use native.Mathlib.Omega.{arith}
+use borrow.Author.Needs.{needs}
+use borrow.Author.Tests.{ne-eqb}
 use denote.Ref.{now}
 use lib.ListN.{length}
+use Rattle.refusal.specs.Refusal.{firstOf}
 use Rattle.pixel.specs.Methods.{methodOf}
 use Rattle.pixel.specs.declared.Method.{Method}
 use Rattle.curve.specs.Curve.{EntriesInRange}
 use Rattle.colouring.specs.Colouring.{colouredStrip}
-use Rattle.host.specs.Host.{colourOutcome}
-use Rattle.host.proofs.Outcomes.{left-refused, left-accepted}
-use Rattle.host.proofs.Passed.{Colourable, colour-passed}
-use borrow.Author.Needs.{needs}
+use Rattle.host.specs.Host.{entriesChecks, colourChecks, colourOutcome}
+use Rattle.host.proofs.Outcomes.{outcome-refused, outcome-accepted}
+use Rattle.host.proofs.Passed.{Colourable, colour-passed, sized-checks}
 use Rattle.host.proofs.cube_balance_colour.Statement.{statement}
 use Rattle.host.proofs.cube_balance_colour.Tie as tie
+
+returns : tie.Need-returns
+unfolding colourOutcome
+returns c = outcome-refused 10 _ _ _ (sym (simp (ne-eqb _ _ (c .if1 .taken)))) ten
+  where
+    ten : _≡_ {A = ℕ} 10 0 → ⊥
+    ten e = omega arith
+
+read-curve-requires : tie.Need-read-curve-requires
+read-curve-requires c κs = search needs
 
 colour-number-requires : tie.Need-colour-number-requires
 colour-number-requires c κs = search needs
 
--- what the answer 0 says
-accepted : (c : tie.Then1)
-    → let a = c .before .before .before .before .before .args in
-    Colourable (now (a .curve)) (a .method) (length (now (a .source))) (length (now (a .destination)))
-accepted c = colour-passed _ _ _ _ (sym (c .before .colour-number .ensures) ∙ c .if1 .taken)
+-- the number is the first of all checks
+number-is : (c : tie.After-colour-number)
+    → let a = c .before .before .before .before .before .before .args in
+    c .colour-number .result ≡ firstOf (colourChecks (now (a .curve)) (a .method) (length (now (a .source))) (length (now (a .destination))))
+number-is c =
+    let reading = c .before in
+    let a = reading .before .before .before .before .before .args in
+    let source = length (now (a .source)) in
+    let destination = length (now (a .destination)) in
+    c .colour-number .ensures
+    ∙ ap (λ (entries : List ℕ). firstOf (entriesChecks entries (a .method) source destination)) (reading .read-curve .ensures)
+    ∙ sized-checks (now (a .curve)) (a .method) source destination (omega arith)
 
-read-curve-requires : tie.Need-read-curve-requires
-read-curve-requires c κs = accepted c .size
+returns-2 : tie.Need-returns-2
+unfolding colourOutcome
+returns-2 c = outcome-refused _ _ _ _ (number-is (c .before)) (c .if2 .taken)
+
+-- what the answer 0 says
+accepted : (c : tie.Else2)
+    → let a = c .before .before .before .before .before .before .before .args in
+    Colourable (now (a .curve)) (a .method) (length (now (a .source))) (length (now (a .destination)))
+accepted c = colour-passed _ _ _ _ (sym (number-is (c .before)) ∙ c .if2 .left)
 
 method-of-requires : tie.Need-method-of-requires
-method-of-requires c κs = accepted (c .before .before) .known
+method-of-requires c κs = accepted (c .before) .known
 
 colour-strip-requires : tie.Need-colour-strip-requires
 colour-strip-requires c κs =
-    let reading = c .before .before .before in
-    let ok = accepted (reading .before) in
-    (subst EntriesInRange (sym (reading .read-curve .ensures)) (ok .shape .range), record { whole = ok .whole; same = ok .same })
+    let passed = c .before .before .before in
+    let ok = accepted passed in
+    (subst EntriesInRange (sym (passed .before .before .read-curve .ensures)) (ok .shape .range), record { whole = ok .whole; same = ok .same })
 
 same-length : tie.Need-same-length
 same-length c = search needs
 
-returns : tie.Need-returns
+returns-3 : tie.Need-returns-3
 unfolding colourOutcome
-returns c =
+returns-3 c =
     let colouring = c .before .before in
-    let reading = colouring .before .before .before .before in
-    let passed = reading .before in
-    let a = passed .before .before .before .before .before .args in
-    left-accepted _ _ _ _ _ (passed .before .colour-number .ensures) (passed .if1 .taken)
+    let passed = colouring .before .before .before .before in
+    let reading = passed .before .before in
+    let a = reading .before .before .before .before .before .args in
+    outcome-accepted _ _ _ _ _ (sym (passed .if2 .left) ∙ number-is (passed .before)) refl
     (colouring .colour-strip .ensures
     ∙ ap (λ (m : Method). colouredStrip m (reading .read-curve .result) (now (a .source))) (colouring .before .before .method-of .ensures)
     ∙ ap (λ (curve : List ℕ). colouredStrip (methodOf (a .method)) curve (now (a .source))) (reading .read-curve .ensures))
-
-returns-2 : tie.Need-returns-2
-unfolding colourOutcome
-returns-2 c = left-refused _ _ _ _ (c .before .colour-number .ensures) (c .if1 .left)
 
 pub cube-balance-colour-spec : {M : Type 1} → statement M
 cube-balance-colour-spec =
     tie.close
     (tie.spec
-    colour-number-requires
+    returns
     read-curve-requires
+    colour-number-requires
+    returns-2
     method-of-requires
     colour-strip-requires
     same-length
-    returns
-    returns-2)
+    returns-3)

@@ -74,9 +74,10 @@ static struct job job_of(int argc, char **argv)
     return job;
 }
 
+/* Zeroed, since every byte lent to a call must have been set. */
 static void *memory(size_t length)
 {
-    void *bytes = malloc(length);
+    void *bytes = calloc(length, 1);
     if (bytes == NULL)
         stop(1, "no memory for %zu bytes", length);
     return bytes;
@@ -127,7 +128,7 @@ static void keep_time(struct job *job, double ms)
 
 static void balance_frame(struct job *job)
 {
-    uint8_t curve[CUBE_BALANCE_CURVE_LENGTH];
+    uint8_t curve[CUBE_BALANCE_CURVE_LENGTH] = {0};
     double start = now_ms();
     expect_accepted(job, "cube_balance_curve",
                     cube_balance_curve(job->source, job->frame_length, job->choice, curve, sizeof curve));

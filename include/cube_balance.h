@@ -1,38 +1,48 @@
 /*
  * Cube balance: the two calls for the panel's host program.
  *
- * The first makes the tone curve of a strip of pixels, the second colours pixels by a curve. Both are proved to do what their
- * contracts say, for every input (crates/host in the sources).
+ * cube_balance_curve makes the tone curve of a strip of pixels, cube_balance_colour colours pixels by a curve. Each is proved to
+ * hand back and to write exactly what its rules give, for all that it may be lent (crates/host in the sources).
  *
- * Pixels are bytes, three to a pixel: red, green, blue. A run is a pointer and a length in bytes.
+ * Pixels are bytes, three to a pixel: red, green, blue. The sum of a pixel is the three added, 0 to 765.
  *
- * - The runs lent to one call lie apart: no byte of a run that is written may belong to another run of the same call. A picture
- *   cannot be coloured in place.
- * - A call touches no byte outside the runs lent to it, and writes only into `curve` (cube_balance_curve) and `destination`
- *   (cube_balance_colour).
- * - A run of length 0 is empty. Its pointer is not looked at and may be anything, NULL included. A run of any other length needs
- *   a pointer to so many bytes.
- * - A refused call writes nothing: every byte of `curve` and `destination` stays as it was.
- * - Nothing is kept between calls, and nothing is allocated. Calls may run side by side in several threads if no call writes into
- *   a run that is lent to another. A call needs at most 64 KiB of stack.
+ * Runs. A run is a pointer and a length in bytes. It is for the caller to see, and no call can check, that
+ * - the runs lent to one call lie apart: a picture cannot be coloured in place;
+ * - every byte of a run is there and has been set, also in a run that is only written;
+ * - until the call returns, nobody else writes into its runs, or reads the one that it writes.
+ * A run of length 0 is empty. Its pointer is not looked at and may be anything, NULL included.
  *
- * A curve travels as CUBE_BALANCE_CURVE_LENGTH bytes. It has an entry for each sum s of a pixel's three samples, 0 to 765, entry 0
- * first, two bytes an entry, low byte first: entry s is curve[2 * s] + 256 * curve[2 * s + 1], the sum to which a pixel of sum s is
- * moved. A curve is accepted only if entry 0 is 0, entry 765 is 765, none exceeds 765 and none is less than the one before; what
- * cube_balance_curve writes always is.
+ * Calls. A call touches no byte outside its runs and writes into one of them: `curve` (cube_balance_curve) or `destination`
+ * (cube_balance_colour). After a refused call that run holds what it held before. Nothing is kept from call to call and nothing is
+ * allocated, so calls may run side by side in several threads. A call needs at most 64 KiB of stack.
  *
- * Balancing one frame by itself:
+ * A curve travels as CUBE_BALANCE_CURVE_LENGTH bytes. It has an entry for each sum s of a pixel, 0 to 765, entry 0 first, two bytes
+ * an entry, low byte first: entry s is curve[2 * s] + 256 * curve[2 * s + 1], the target for the pixels of sum s. A curve is
+ * accepted only if entry 0 is 0, entry 765 is 765, none exceeds 765 and none is less than the one before; what cube_balance_curve
+ * writes always is.
+ *
+ * What a colouring keeps, for every pixel written:
+ * - each sample is 0 to 255, and of two channels the one no larger going in comes out no larger, so that equal ones stay equal;
+ * - the sum is at most one from the curve's entry for the input sum;
+ * - two channels differ by their input difference times one factor, give or take less than a full step; the factor is common to
+ *   all three pairs and set by input sum, entry and method alone;
+ * - of any two pixels coloured by equal curves, in whichever calls and by whichever methods, the one whose input sum is no smaller
+ *   has a sum at most two below the other's.
+ *
+ * Balancing one frame by itself (a shot of several frames: lay them end to end in one strip for its curve, and colour each by it):
  *
  *     #include "cube_balance.h"
  *
  *     uint32_t balance(const uint8_t *frame, uint8_t *balanced, size_t length)
  *     {
- *         uint8_t curve[CUBE_BALANCE_CURVE_LENGTH];
+ *         uint8_t curve[CUBE_BALANCE_CURVE_LENGTH] = {0};
  *         uint32_t number = cube_balance_curve(frame, length, CUBE_BALANCE_CUBE, curve, sizeof curve);
  *         if (number != CUBE_BALANCE_ACCEPTED)
  *             return number;
  *         return cube_balance_colour(curve, sizeof curve, CUBE_BALANCE_YANG_LEE, frame, length, balanced, length);
  *     }
+ *
+ * The library is for x86-64 Linux and takes memcpy and memset from the C library.
  */
 #ifndef CUBE_BALANCE_H
 #define CUBE_BALANCE_H
@@ -52,7 +62,7 @@ extern "C" {
 #define CUBE_BALANCE_CUBE 1      /* the tones spread over the RGB cube */
 #define CUBE_BALANCE_EQUALISED 2 /* the tones spread evenly */
 
-/* Methods of moving a pixel without turning its hue. */
+/* Methods of moving a pixel to its target. */
 #define CUBE_BALANCE_NAIK_MURTHY 1
 #define CUBE_BALANCE_YANG_LEE 2
 

@@ -8,6 +8,7 @@
 #include "calls.h"
 #include "check.h"
 #include "exact.h"
+#include "groups.h"
 #include "pixels.h"
 
 static const uint8_t pixels[6] = {10, 20, 30, 200, 220, 90};
@@ -89,18 +90,31 @@ static void above_765(void)
         above_765_from(s);
 }
 
-/* Entry 0 raised where no other entry is less, and entry 765 lowered where none before is more: only the ends are wrong. */
-static void ends(void)
+/* Entry 0 raised where no other entry is less. */
+static void first_entry(void)
 {
-    static const uint32_t first[] = {1, 2, 255, 256, 257, 512, 765};
-    static const uint32_t last[] = {764, 763, 766, 1021, 509, 510, 512, 256, 255, 253, 0};
+    static const uint32_t entries[] = {1, 2, 255, 256, 257, 512, 765};
     uint8_t curve[EXACT_CURVE_LENGTH];
     curve_level(765, curve);
-    for (size_t i = 0; i < sizeof first / sizeof first[0]; i++)
-        broken_by(curve, "level 765", 0, first[i]);
+    for (size_t i = 0; i < sizeof entries / sizeof entries[0]; i++)
+        broken_by(curve, "level 765", 0, entries[i]);
+}
+
+/* Entry 765 changed where none before is more. */
+static void last_entry(void)
+{
+    static const uint32_t entries[] = {764, 763, 766, 1021, 509, 510, 512, 256, 255, 253, 0};
+    uint8_t curve[EXACT_CURVE_LENGTH];
     curve_level(0, curve);
-    for (size_t i = 0; i < sizeof last / sizeof last[0]; i++)
-        broken_by(curve, "level 0", EXACT_WHITE, last[i]);
+    for (size_t i = 0; i < sizeof entries / sizeof entries[0]; i++)
+        broken_by(curve, "level 0", EXACT_WHITE, entries[i]);
+}
+
+static void ends(void)
+{
+    uint8_t curve[EXACT_CURVE_LENGTH];
+    first_entry();
+    last_entry();
     curve_identity(curve);
     broken_by(curve, "identity", 0, 1);
     broken_by(curve, "identity", EXACT_WHITE, 764);

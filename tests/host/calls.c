@@ -13,15 +13,6 @@ static void expect_number(const char *call, enum placement placement, uint32_t e
         fail("%s, runs %s: expected the number %u, came %u", call, placement_name(placement), (unsigned)expected, (unsigned)came);
 }
 
-/* An input can only have changed if its pages were made writable again, but the header promises it, so it is compared. */
-static void expect_input(const char *name, const struct run *run, const uint8_t *content)
-{
-    if (run->length > 0 && memcmp(run->bytes, content, run->length) != 0)
-        fail("the %s was changed, runs %s", name, placement_name(run->placement));
-    if (!run_slack_is_intact(run))
-        fail("bytes beside the %s were changed, runs %s", name, placement_name(run->placement));
-}
-
 static size_t first_difference(const uint8_t *a, const uint8_t *b)
 {
     size_t i = 0;
@@ -84,7 +75,6 @@ static void try_curve_placed(const struct curve_call *call, enum placement place
     struct run strip = run_of(call->strip, call->strip_length, placement);
     run_make_read_only(&strip);
     try_curve_of_run(&strip, call->choice, call->curve_length, number, written);
-    expect_input("strip", &strip, call->strip);
     run_free(&strip);
 }
 
@@ -110,8 +100,6 @@ void try_colour_placed(const struct colour_call *call, enum placement placement,
     else
         expect_untouched("destination", &destination);
     expect_beside("destination", &destination);
-    expect_input("curve", &curve, call->curve);
-    expect_input("source", &source, call->source);
     run_free(&curve);
     run_free(&source);
     run_free(&destination);
@@ -139,7 +127,7 @@ void compare_curve(const uint8_t *strip, size_t length, uint32_t choice, uint8_t
 static uint8_t *coloured(const uint8_t *curve, uint32_t method, const uint8_t *source, size_t length)
 {
     uint32_t entries[EXACT_SUMS];
-    uint8_t *bytes = malloc(length + 1);
+    uint8_t *bytes = malloc(length + 1); /* one more, so that an empty strip is not NULL */
     if (bytes == NULL)
         fail("no memory for %zu bytes", length);
     exact_from_bytes(curve, entries);

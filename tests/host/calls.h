@@ -25,7 +25,8 @@ struct colour_call {
 
 /*
  * Each makes the call in both placements. It fails unless the call hands back `number`; unless the run written holds `written`,
- * or, where the call is refused, still its pattern; and unless everything else is as it was.
+ * or, where the call is refused, still its pattern; and unless the bytes beside that run are as they were. Inputs lie in read-only
+ * pages: a write to one stops the program.
  */
 void try_curve(const struct curve_call *call, uint32_t number, const uint8_t *written);
 void try_colour(const struct colour_call *call, uint32_t number, const uint8_t *written);

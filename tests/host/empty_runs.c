@@ -6,9 +6,8 @@
 #include "check.h"
 #include "cube_balance.h"
 #include "exact.h"
+#include "groups.h"
 #include "pixels.h"
-
-#include <string.h>
 
 /* Three runs of the colour call, or two of the curve call; bit i of `empty` says that run i is empty. */
 enum { STRIP = 1, CURVE_WRITTEN = 2 };
@@ -64,13 +63,23 @@ static void colour_call(uint8_t *nowhere, int empty, uint32_t method)
 }
 
 /* At least one run is empty in each, so that none of the calls writes: an accepted one has no pixel. */
+static void curve_calls(uint8_t *nowhere, uint32_t choice)
+{
+    for (int empty = 1; empty <= (STRIP | CURVE_WRITTEN); empty++)
+        curve_call(nowhere, empty, choice);
+}
+
+static void colour_calls(uint8_t *nowhere, uint32_t method)
+{
+    for (int empty = 1; empty <= (CURVE | SOURCE | DESTINATION); empty++)
+        colour_call(nowhere, empty, method);
+}
+
 static void all_calls(uint8_t *nowhere)
 {
     for (uint32_t number = 0; number <= 3; number++) {
-        for (int empty = 1; empty <= (STRIP | CURVE_WRITTEN); empty++)
-            curve_call(nowhere, empty, number);
-        for (int empty = 1; empty <= (CURVE | SOURCE | DESTINATION); empty++)
-            colour_call(nowhere, empty, number);
+        curve_calls(nowhere, number);
+        colour_calls(nowhere, number);
     }
 }
 

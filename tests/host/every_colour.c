@@ -2,6 +2,7 @@
 #include "calls.h"
 #include "check.h"
 #include "exact.h"
+#include "groups.h"
 #include "pixels.h"
 
 enum { SIDE = 256, SLICE = SIDE * SIDE };

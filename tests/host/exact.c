@@ -55,7 +55,7 @@ static int64_t distance(int64_t pixels, int64_t k, int64_t at_most)
     return difference < 0 ? -difference : difference;
 }
 
-/* "Choice 1, cube: the entry for s is the k where the distance is least. Of two equal distances the smaller k wins." */
+/* "Choice 1, cube …: the entry for s is the k where the distance … is least. Of two equal distances the smaller k wins." */
 static uint32_t cube_entry(int64_t pixels, int64_t at_most)
 {
     int64_t best = 0;
@@ -70,7 +70,7 @@ static uint32_t cube_entry(int64_t pixels, int64_t at_most)
     return (uint32_t)best;
 }
 
-/* "Choice 2, equalised: the entry is 765 × H(s) / N to the nearest whole number, halves up." */
+/* "Choice 2, equalised …: the entry is 765 × H(s) / N to the nearest whole number, halves up." */
 static uint32_t equalised_entry(int64_t pixels, int64_t at_most)
 {
     return (uint32_t)near(765 * at_most, pixels);
@@ -90,7 +90,7 @@ void exact_curve(const uint8_t *strip, size_t length, uint32_t choice, uint32_t 
         else
             entries[s] = choice == 1 ? cube_entry(pixels, at_most[s]) : equalised_entry(pixels, at_most[s]);
     }
-    /* "In both, entry 0 is then set to 0 and entry 765 to 765." */
+    /* "In both, entry 0 is then set to 0 and entry 765 to 765 …" */
     entries[0] = 0;
     entries[765] = 765;
 }

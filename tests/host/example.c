@@ -14,7 +14,7 @@ int main(void)
         fprintf(stderr, "example: FAILED: document 01's two pixels were not balanced\n");
         return 1;
     }
-    if (balance(frame, balanced, 4) != CUBE_BALANCE_LENGTH_NOT_THREES || memcmp(balanced, expected, sizeof expected) != 0) {
+    if (balance(frame, balanced, 4) != CUBE_BALANCE_NOT_WHOLE_PIXELS || memcmp(balanced, expected, sizeof expected) != 0) {
         fprintf(stderr, "example: FAILED: a length of 4 was not refused 2\n");
         return 1;
     }

@@ -9,6 +9,7 @@
 #include "check.h"
 #include "cube_balance.h"
 #include "exact.h"
+#include "groups.h"
 #include "pixels.h"
 
 #include <string.h>
@@ -17,7 +18,7 @@
 _Static_assert(CUBE_BALANCE_CURVE_LENGTH == 1532 && CUBE_BALANCE_PIXEL_LIMIT == 16777216, "sizes");
 _Static_assert(CUBE_BALANCE_CUBE == 1 && CUBE_BALANCE_EQUALISED == 2, "choices");
 _Static_assert(CUBE_BALANCE_NAIK_MURTHY == 1 && CUBE_BALANCE_YANG_LEE == 2, "methods");
-_Static_assert(CUBE_BALANCE_ACCEPTED == 0 && CUBE_BALANCE_LENGTH_NOT_THREES == 2 && CUBE_BALANCE_TOO_MANY_PIXELS == 3, "0, 2, 3");
+_Static_assert(CUBE_BALANCE_ACCEPTED == 0 && CUBE_BALANCE_NOT_WHOLE_PIXELS == 2 && CUBE_BALANCE_TOO_MANY_PIXELS == 3, "0, 2, 3");
 _Static_assert(CUBE_BALANCE_NO_SUCH_CHOICE == 4 && CUBE_BALANCE_NO_PIXEL == 5 && CUBE_BALANCE_NO_SUCH_METHOD == 7, "4, 5, 7");
 _Static_assert(CUBE_BALANCE_LENGTHS_DIFFER == 8 && CUBE_BALANCE_CURVE_LENGTH_WRONG == 10, "8, 10");
 _Static_assert(CUBE_BALANCE_CURVE_RULE_BROKEN == 11, "11");
@@ -73,11 +74,11 @@ static void single_moves_all(void)
         single_move(&single_moves[i]);
 }
 
-/* A curve of up to three levels: `low` below `first`, `middle` from `first`, `high` from `second`; the ends as always. */
-static void curve_of_levels(uint32_t low, uint32_t first, uint32_t middle, uint32_t second, uint32_t high, uint8_t *curve)
+/* A curve that is 0 below `first`, `middle` from there, and 765 from `second`. */
+static void curve_of_levels(uint32_t first, uint32_t middle, uint32_t second, uint8_t *curve)
 {
     for (uint32_t s = 0; s < EXACT_SUMS; s++)
-        curve_set(curve, s, s < first ? low : s < second ? middle : high);
+        curve_set(curve, s, s < first ? 0 : s < second ? middle : EXACT_WHITE);
 }
 
 /* "One pixel of sum 300 and one of 600: the cube curve is 0 up to 299, 382 for 300 to 599, 765 from 600; equalised, 383". */
@@ -87,7 +88,7 @@ static void two_pixels(uint32_t choice, uint32_t middle)
     uint8_t curve[EXACT_CURVE_LENGTH];
     struct curve_call call = {strip, sizeof strip, choice, sizeof curve};
     running("sums 300 and 600, choice %u", (unsigned)choice);
-    curve_of_levels(0, 300, middle, 600, 765, curve);
+    curve_of_levels(300, middle, 600, curve);
     try_curve(&call, 0, curve);
 }
 
@@ -98,7 +99,7 @@ static void all_of_sum_300(uint32_t choice)
     uint8_t curve[EXACT_CURVE_LENGTH];
     struct curve_call call = {strip, sizeof strip, choice, sizeof curve};
     running("all pixels of sum 300, choice %u", (unsigned)choice);
-    curve_of_levels(0, 300, 765, 766, 765, curve);
+    curve_of_levels(300, 765, 300, curve);
     try_curve(&call, 0, curve);
 }
 
@@ -109,7 +110,7 @@ static void lengths_3_and_4(void)
     uint8_t curve[EXACT_CURVE_LENGTH];
     struct curve_call three = {strip, 3, 1, sizeof curve}, four = {strip, 4, 1, sizeof curve};
     running("lengths 3 and 4");
-    curve_of_levels(0, 6, 765, 766, 765, curve);
+    curve_of_levels(6, 765, 6, curve);
     try_curve(&three, 0, curve);
     try_curve(&four, 2, NULL);
 }
@@ -139,7 +140,7 @@ static void balance_example(void)
     try_colour(&call, 0, balanced);
 }
 
-/* The figures that document 01 gives for G, and that both neighbouring lines agree at 255 and 510. */
+/* The figures that document 01 gives for G, and G(0). */
 static void targets(void)
 {
     static const int64_t figures[][2] = {{0, 0}, {1, 1}, {255, 16581375}, {256, 16777213}, {510, 82906875}, {765, 99488250}};

@@ -38,23 +38,23 @@ static struct run run_mapped(size_t length, enum placement placement, int access
     return run;
 }
 
-/* The pattern of one placement is the complement of the other's. */
-static uint8_t pattern(enum placement placement, size_t place)
+/* By the place from the run's first byte. One placement's is the complement of the other's: they differ in every byte of a run. */
+static uint8_t pattern(const struct run *run, const uint8_t *place)
 {
-    uint8_t byte = (uint8_t)(31 * place + 7);
-    return placement == AGAINST_THE_PAGE_ABOVE ? byte : (uint8_t)~byte;
+    uint8_t byte = (uint8_t)(31 * (place - run->bytes) + 7);
+    return run->placement == AGAINST_THE_PAGE_ABOVE ? byte : (uint8_t)~byte;
 }
 
-static void fill(uint8_t *pages, size_t length, enum placement placement)
+static void fill(const struct run *run)
 {
-    for (size_t i = 0; i < length; i++)
-        pages[i] = pattern(placement, i);
+    for (size_t i = 0; i < run->pages_length; i++)
+        run->pages[i] = pattern(run, run->pages + i);
 }
 
 struct run run_of_pattern(size_t length, enum placement placement)
 {
     struct run run = run_mapped(length, placement, PROT_READ | PROT_WRITE);
-    fill(run.pages, run.pages_length, placement);
+    fill(&run);
     return run;
 }
 
@@ -80,7 +80,7 @@ void run_make_read_only(const struct run *run)
 static bool has_pattern(const struct run *run, size_t from, size_t to)
 {
     for (size_t i = from; i < to; i++)
-        if (run->pages[i] != pattern(run->placement, i))
+        if (run->pages[i] != pattern(run, run->pages + i))
             return false;
     return true;
 }
@@ -112,7 +112,7 @@ struct run stack_of(size_t length)
 size_t stack_used(const struct run *stack)
 {
     size_t i = 0;
-    while (i < stack->length && stack->pages[i] == pattern(stack->placement, i))
+    while (i < stack->length && stack->pages[i] == pattern(stack, stack->pages + i))
         i++;
     return stack->length - i;
 }

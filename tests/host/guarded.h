@@ -3,7 +3,7 @@
  *
  * A run's own pages are seldom full, so it is placed in one of two ways, with its last byte against the unreadable pages above
  * or with its first byte against those below. The slack on the other side holds a pattern that is checked after the call. A test
- * tries each run in both placements; their patterns differ in every byte, so that no written byte goes unseen in both.
+ * tries each run in both placements; their patterns differ in every byte of a run, so that no written byte goes unseen in both.
  */
 #ifndef GUARDED_H
 #define GUARDED_H

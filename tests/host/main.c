@@ -6,8 +6,8 @@
  * Prints a line for each group of cases, and at the end how many cases it ran. The first failure ends it with status 1.
  */
 #include "check.h"
+#include "groups.h"
 #include "guarded.h"
-#include "pixels.h"
 
 #include <errno.h>
 #include <inttypes.h>

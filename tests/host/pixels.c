@@ -4,11 +4,10 @@
 #include "exact.h"
 
 #include <stdlib.h>
-#include <string.h>
 
 struct strip strip_new(size_t pixels)
 {
-    struct strip strip = {calloc(3 * pixels + 1, 1), 3 * pixels};
+    struct strip strip = {calloc(3 * pixels + 1, 1), 3 * pixels}; /* one more, so that an empty strip is not NULL */
     if (strip.bytes == NULL)
         fail("no memory for %zu pixels", pixels);
     return strip;

@@ -31,14 +31,4 @@ void curve_random(uint8_t *curve);
 void curve_set(uint8_t *curve, uint32_t sum, uint32_t entry);
 uint32_t curve_entry(const uint8_t *curve, uint32_t sum);
 
-/* The groups of tests; each is a file. */
-void test_frames(void);
-void test_refusals(void);
-void test_broken_curves(void);
-void test_empty_runs(void);
-void test_strips(void);
-void test_ties(void);
-void test_every_colour(void);
-void test_threads(void);
-
 #endif

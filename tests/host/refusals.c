@@ -8,6 +8,7 @@
 #include "check.h"
 #include "cube_balance.h"
 #include "exact.h"
+#include "groups.h"
 #include "pixels.h"
 
 #include <stdio.h>
@@ -120,7 +121,7 @@ static void forget_met(void)
 /* An empty strip (5) is a multiple of 3 long (not 2) and has no pixel too many (not 3). All other pairs can occur. */
 static bool curve_pair_possible(uint32_t a, uint32_t b)
 {
-    return a == b || !((a == 2 && b == 5) || (a == 5 && b == 3));
+    return !((a == 2 && b == 5) || (a == 5 && b == 3));
 }
 
 static void curve_case(const struct run *strip, const struct value *choice, const struct value *length, unsigned strip_causes)
@@ -259,11 +260,9 @@ static void colour_refusals(void)
 
 /* ---- Lengths that do not fit in 32 bits ---- */
 
-#if SIZE_MAX > UINT32_MAX
-
 #define BEYOND ((size_t)1 << 32)
 
-/* Each length, cut to 32 bits, would be a good one. The long run is read-only: a refused call writes nothing. */
+/* Cut to 32 bits, each length would get another number. The long run is read-only: a refused call writes nothing. */
 static void long_strip(size_t length, uint32_t number)
 {
     struct run strip = run_of_zeros(length);
@@ -282,12 +281,12 @@ static void expect_refused(uint32_t came, uint32_t number)
 static void long_curve(void)
 {
     static const uint8_t pixel[3] = {1, 2, 3};
-    uint8_t moved[3] = {0, 0, 0};
-    struct run curve = run_of_zeros(BEYOND + EXACT_CURVE_LENGTH);
+    struct run curve = run_of_zeros(BEYOND + EXACT_CURVE_LENGTH), destination = run_of_zeros(3);
     running("curve length %zu", curve.length);
     expect_refused(cube_balance_curve(pixel, 3, 1, curve.bytes, curve.length), 10);
-    expect_refused(cube_balance_colour(curve.bytes, curve.length, 1, pixel, 3, moved, 3), 10);
+    expect_refused(cube_balance_colour(curve.bytes, curve.length, 1, pixel, 3, destination.bytes, 3), 10);
     run_free(&curve);
+    run_free(&destination);
 }
 
 static void long_destination(void)
@@ -303,13 +302,14 @@ static void long_destination(void)
 
 static void long_source(void)
 {
-    uint8_t curve[EXACT_CURVE_LENGTH], moved[5] = {0};
-    struct run source = run_of_zeros(BEYOND + 5);
+    uint8_t curve[EXACT_CURVE_LENGTH];
+    struct run source = run_of_zeros(BEYOND + 5), destination = run_of_zeros(5);
     running("source length %zu", source.length);
     curve_identity(curve);
-    expect_refused(cube_balance_colour(curve, sizeof curve, 1, source.bytes, BEYOND + 3, moved, 3), 2);
-    expect_refused(cube_balance_colour(curve, sizeof curve, 1, source.bytes, BEYOND + 5, moved, 5), 8);
+    expect_refused(cube_balance_colour(curve, sizeof curve, 1, source.bytes, BEYOND + 3, destination.bytes, 3), 2);
+    expect_refused(cube_balance_colour(curve, sizeof curve, 1, source.bytes, BEYOND + 5, destination.bytes, 5), 8);
     run_free(&source);
+    run_free(&destination);
 }
 
 static void long_lengths(void)
@@ -325,14 +325,6 @@ static void long_lengths(void)
     long_source();
     group_end();
 }
-
-#else
-
-static void long_lengths(void)
-{
-}
-
-#endif
 
 void test_refusals(void)
 {

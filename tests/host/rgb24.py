@@ -10,6 +10,7 @@ import random
 import re
 import subprocess
 import sys
+import time
 
 from exact import balanced
 
@@ -117,6 +118,7 @@ def slow_input():
         for i in range(0, len(data), 7):
             child.stdin.write(data[i : i + 7])
             child.stdin.flush()
+            time.sleep(0.01)  # so that the filter meets each piece by itself
         out, _ = child.communicate(timeout=60)
         expect("input in pieces", "exit status", 0, child.returncode)
     expect("input in pieces", "output", b"".join(balanced(frame, 1, 2) for frame in frames), out)

@@ -2,9 +2,8 @@
 #include "calls.h"
 #include "check.h"
 #include "exact.h"
+#include "groups.h"
 #include "pixels.h"
-
-#include <string.h>
 
 static void flat_strips(void)
 {

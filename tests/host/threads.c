@@ -4,6 +4,7 @@
 #include "check.h"
 #include "cube_balance.h"
 #include "exact.h"
+#include "groups.h"
 #include "pixels.h"
 
 #include <pthread.h>
@@ -104,25 +105,41 @@ static void *balance_often(void *given)
     return NULL;
 }
 
-static void start_workers(void)
+/* Every choice with every method. */
+static void prepare_all(void)
 {
     for (uint32_t i = 0; i < WORKERS; i++)
         prepare(&works[i], 1 + i % 2, 1 + i / 2);
+}
+
+static void start_all(void)
+{
     for (int i = 0; i < WORKERS; i++)
         must(pthread_create(&works[i].thread, NULL, balance_often, &works[i]), "pthread_create");
 }
 
-static void side_by_side(void)
+static void join_all(void)
 {
-    running("%d threads, %d rounds each", (int)WORKERS, (int)ROUNDS);
-    start_workers();
     for (int i = 0; i < WORKERS; i++)
         must(pthread_join(works[i].thread, NULL), "pthread_join");
+}
+
+static void expect_all_right(void)
+{
     for (int i = 0; i < WORKERS; i++) {
         count_case();
         if (works[i].wrong != 0)
             fail("thread %d: %u of %d rounds went wrong", i, works[i].wrong, (int)ROUNDS);
     }
+}
+
+static void side_by_side(void)
+{
+    running("%d threads, %d rounds each", (int)WORKERS, (int)ROUNDS);
+    prepare_all();
+    start_all();
+    join_all();
+    expect_all_right();
 }
 
 /* ---- One after the other ---- */
@@ -133,7 +150,7 @@ struct answer {
     uint8_t bytes[EXACT_CURVE_LENGTH];
 };
 
-/* Calls of all sorts: every choice and method, long and short, accepted and refused by each number. */
+/* Calls of all sorts: every choice and method, long and short, accepted, and refused by each number but 3 (which needs 50 MB). */
 enum { CALLS = 16 };
 
 /* What the calls read: pixels, a good curve and a broken one. */
@@ -181,18 +198,27 @@ static void same_after(const struct answer *first, int i, int other)
         fail("the bytes written differ");
 }
 
-static void one_after_the_other(void)
+static void draw_pixels(void)
 {
-    struct answer first[CALLS];
     for (size_t i = 0; i < sizeof pixels; i++)
         pixels[i] = (uint8_t)draw();
+}
+
+static void same_after_each(int i)
+{
+    struct answer first = answer_of(i);
+    for (int other = 0; other < CALLS; other++)
+        same_after(&first, i, other);
+}
+
+static void one_after_the_other(void)
+{
+    draw_pixels();
     curve_random(good);
     memcpy(broken, good, sizeof broken);
     curve_set(broken, 0, 1);
     for (int i = 0; i < CALLS; i++)
-        first[i] = answer_of(i);
-    for (int i = 0; i < CALLS * CALLS; i++)
-        same_after(&first[i / CALLS], i / CALLS, i % CALLS);
+        same_after_each(i);
 }
 
 void test_threads(void)

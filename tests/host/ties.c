@@ -5,15 +5,16 @@
  *
  *     N × (G(k) + G(k + 1)) = 2 × G(765) × H.
  *
- * A small program reduced the fraction (G(k) + G(k + 1)) / (2 × G(765)) for every k: its lowest denominator is the least N with a
- * tie at k. That is 2 for k = 382 (H / N = 1/2); next come 144,500 (k = 229 and 535), 176,868 (187, 577), 221,085 (307, 457),
- * 260,100 (127, 637) and so on, 229 of the 765 k up to 16,777,216 pixels. 884,340 has nine ties at once, the darkest below a
- * million pixels among them (k = 37); 7,369,500 and 11,054,250 have 85, the most. Every N below is tried with all of its ties,
- * which are worked out again here; each must stand in the curve as the smaller k.
+ * Reduce (G(k) + G(k + 1)) / (2 × G(765)) for a k: its lowest denominator is the least N with a tie at k. That is 2 for k = 382
+ * (H / N = 1/2); next come 144,500 (k = 229 and 535), 176,868 (187, 577), 221,085 (307, 457), 260,100 (127, 637) and so on, 229 of
+ * the 765 k up to 16,777,216 pixels. 884,340 has nine ties at once, the darkest below a million pixels among them (k = 37);
+ * 7,369,500, 11,054,250 and 14,739,000 have 85, the most. Every N below is tried with all of its ties, which are worked out again
+ * here; each must stand in the curve as the smaller k.
  */
 #include "calls.h"
 #include "check.h"
 #include "exact.h"
+#include "groups.h"
 #include "pixels.h"
 
 #include <stdio.h>
@@ -53,15 +54,15 @@ static void expect_smaller(const uint8_t *curve, const uint32_t *smaller, unsign
             fail("tie of %u and the next: exact.c has %u", (unsigned)smaller[i], (unsigned)curve_entry(curve, i));
 }
 
-static void ties_of(int64_t pixels, unsigned at_least)
+static void ties_of(int64_t pixels, unsigned expected)
 {
     size_t counts[EXACT_SUMS] = {0};
     uint32_t smaller[EXACT_SUMS];
     uint8_t curve[EXACT_CURVE_LENGTH];
     unsigned ties = lay_out(pixels, 0, counts, smaller);
     running("%lld pixels, %u ties", (long long)pixels, ties);
-    if (ties < at_least)
-        fail("expected at least %u ties", at_least);
+    if (ties != expected)
+        fail("expected %u ties", expected);
     ties_met += ties;
     struct strip strip = strip_of_counts(counts);
     compare_curve(strip.bytes, strip.length, 1, curve);
@@ -83,11 +84,14 @@ static void beside_ties_of(int64_t pixels, int64_t aside)
 
 static void cube_ties(void)
 {
-    static const int64_t pixels[] = {2,      4,      10,     1000,   144500, 176868, 221085, 260100, 294780,
-                                     325125, 368475, 397953, 433500, 468180, 491300, 585225, 614125, 884340};
-    for (size_t i = 0; i < sizeof pixels / sizeof pixels[0]; i++)
-        ties_of(pixels[i], 1);
-    ties_of(11054250, 85);
+    static const struct {
+        int64_t pixels;
+        unsigned ties;
+    } counts[] = {{2, 1},      {4, 1},      {10, 1},     {1000, 1},   {144500, 3}, {176868, 3}, {221085, 2},
+                  {260100, 3}, {294780, 3}, {325125, 2}, {368475, 2}, {397953, 2}, {433500, 5}, {468180, 3},
+                  {491300, 5}, {585225, 2}, {614125, 4}, {884340, 9}, {11054250, 85}};
+    for (size_t i = 0; i < sizeof counts / sizeof counts[0]; i++)
+        ties_of(counts[i].pixels, counts[i].ties);
     beside_ties_of(144500, -1);
     beside_ties_of(144500, 1);
     beside_ties_of(884340, -1);
@@ -96,20 +100,30 @@ static void cube_ties(void)
 }
 
 /* 765 × H / N is a whole number and a half where H / N = odd / 1530. Here N = 1530 × times and H(s) = (2s + 1) × times. */
-static void equalised_halves(size_t times)
+static struct strip strip_of_halves(size_t times)
 {
     size_t counts[EXACT_SUMS] = {0};
-    uint8_t curve[EXACT_CURVE_LENGTH];
     counts[0] = times;
     counts[EXACT_WHITE] = times;
     for (uint32_t s = 1; s < EXACT_WHITE; s++)
         counts[s] = 2 * times;
-    struct strip strip = strip_of_counts(counts);
-    running("halves at every entry, %zu pixels", strip.length / 3);
-    compare_curve(strip.bytes, strip.length, 2, curve);
+    return strip_of_counts(counts);
+}
+
+static void expect_halves_up(const uint8_t *curve)
+{
     for (uint32_t s = 1; s < EXACT_WHITE; s++)
         if (curve_entry(curve, s) != s + 1)
             fail("entry %u is %u, not a half up", (unsigned)s, (unsigned)curve_entry(curve, s));
+}
+
+static void equalised_halves(size_t times)
+{
+    struct strip strip = strip_of_halves(times);
+    uint8_t curve[EXACT_CURVE_LENGTH];
+    running("halves at every entry, %zu pixels", strip.length / 3);
+    compare_curve(strip.bytes, strip.length, 2, curve);
+    expect_halves_up(curve);
     strip_free(&strip);
 }
 

@@ -40,8 +40,8 @@ module _ (c : CurveCall) (bytes : Bytes (c .strip)) where
 -- what a colour call leaves
 module _ (c : ColourCall) where
   -- the source, coloured by the curve handed in
-  abbrev painted : List ℕ
-  painted = colouredStrip (methodOf (c .method)) (curveEntries (c .curve)) (c .source)
+  abbrev coloured-source : List ℕ
+  coloured-source = colouredStrip (methodOf (c .method)) (curveEntries (c .curve)) (c .source)
 
   -- an accepted one passed its checks
   passed : colourOutcome c .number ≡ 0 → Colourable (c .curve) (c .method) (length (c .source)) (length (c .destination))
@@ -53,7 +53,7 @@ module _ (c : ColourCall) where
   unfolding colourOutcome
   size = go (eqb (colourOutcome c .number) 0) refl
     where
-      go : (t : Bool) → eqb (colourOutcome c .number) 0 ≡ t → length (cond t painted (c .destination)) ≡ length (c .destination)
+      go : (t : Bool) → eqb (colourOutcome c .number) 0 ≡ t → length (cond t coloured-source (c .destination)) ≡ length (c .destination)
       go true z =
           let ok = passed (eqb-true (colourOutcome c .number) 0 z) in
           coloured-length (methodOf (c .method)) (curveEntries (c .curve)) (c .source) (ok .whole) ∙ sym (ok .same)
@@ -71,7 +71,7 @@ module _ (c : ColourCall) where
   by-curve w m = go (eqb (colourOutcome c .number) 0) refl m
     where
       go : (t : Bool) → eqb (colourOutcome c .number) 0 ≡ t
-          → w among cond t (pixelsWritten (methodOf (c .method)) (curveEntries (c .curve)) (c .source) (cond t painted (c .destination))) []
+          → w among cond t (pixelsWritten (methodOf (c .method)) (curveEntries (c .curve)) (c .source) (cond t coloured-source (c .destination))) []
           → IsToneCurve (curveEntries (c .curve)) × (w among colouredPixels (methodOf (c .method)) (curveEntries (c .curve)) (c .source))
       go true z m = (passed (eqb-true (colourOutcome c .number) 0 z) .shape, m)
       go false z m = absurd (List·Memᴰ·not-nil m)

@@ -15,7 +15,7 @@ use Rattle.shot.specs.Shot.{pixelLimit, opened, measured, fixedWith, coloured}
 use Rattle.shot.proofs.OneStrip.{strip-accepted, fix-accepted, is-fixed, curve-is, curve-shape}
 use Rattle.shot.proofs.Passed.{measure-passed, fix-passed}
 use Rattle.host.specs.Agreement.{measureAnswer, fixAnswer, Accepted, colourBy, HostFollowsShot}
-use Rattle.host.specs.CurveBytes.{curveLength, curveBytes, curveEntries, isToneCurve}
+use Rattle.host.specs.CurveBytes.{curveLength, curveBytes, curveEntries, keepsCurveRule}
 use Rattle.host.specs.Host.{CurveCall, curveOutcome, colourOutcome}
 use Rattle.host.proofs.CurveBytes.{length-bytes, read-back, curve-complete}
 use Rattle.host.proofs.Passed.{curve-passed}
@@ -63,7 +63,7 @@ module _ (c : CurveCall) (bytes : Bytes (c .strip)) (e : Accepted c) where
   pub written-shape : IsToneCurve (curveEntries (curveOutcome c .bytes))
   written-shape = subst IsToneCurve (sym (entries-are ∙ same-curve)) shape
 
-  ruled : isToneCurve (curveEntries (curveOutcome c .bytes)) ≡ true
+  ruled : keepsCurveRule (curveEntries (curveOutcome c .bytes)) ≡ true
   ruled = curve-complete (curveEntries (curveOutcome c .bytes)) written-shape
 
   -- the colour call accepts it, and does what the shot's colouring does

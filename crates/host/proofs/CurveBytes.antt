@@ -12,7 +12,7 @@ use Rattle.tables.specs.Table.{at}
 use Rattle.tables.proofs.Cases.{true-false, either}
 use Rattle.pixel.specs.Strip.{Bytes}
 use Rattle.curve.specs.Curve.{IsToneCurve}
-use Rattle.host.specs.CurveBytes.{curveBytes, curveEntries, noneExceeds, noneFalls, isToneCurve, TestIsTheRule, CurvesTravel}
+use Rattle.host.specs.CurveBytes.{curveBytes, curveEntries, noneExceeds, noneFalls, keepsCurveRule, TestIsTheRule, CurvesTravel}
 
 -- Two bytes an entry.
 pub length-bytes : (curve : List ℕ) → length (curveBytes curve) ≡ 2 * length curve
@@ -160,8 +160,8 @@ risen-in-range curve size white e =
     exceeds-complete curve (λ k h. omega (arith, falls-sound 0 curve e .1 k 765 (omega arith) (omega arith)))
 
 -- the whole test
-pub curve-sound : (curve : List ℕ) → length curve ≡ 766 → isToneCurve curve ≡ true → IsToneCurve curve
-unfolding isToneCurve
+pub curve-sound : (curve : List ℕ) → length curve ≡ 766 → keepsCurveRule curve ≡ true → IsToneCurve curve
+unfolding keepsCurveRule
 curve-sound curve size e =
     let (first, rises) = both (eqb (at curve 0) 0 && eqb (at curve 765) 765 && noneExceeds curve) (noneFalls 0 curve) e in
     let (ends, range) = both (eqb (at curve 0) 0 && eqb (at curve 765) 765) (noneExceeds curve) first in
@@ -175,16 +175,16 @@ curve-sound curve size e =
     }
 
 -- where both ends are right, the entries' order alone decides
-pub order-decides : (curve : List ℕ) → length curve ≡ 766 → at curve 0 ≡ 0 → at curve 765 ≡ 765 → noneFalls 0 curve ≡ isToneCurve curve
-unfolding isToneCurve
+pub order-decides : (curve : List ℕ) → length curve ≡ 766 → at curve 0 ≡ 0 → at curve 765 ≡ 765 → noneFalls 0 curve ≡ keepsCurveRule curve
+unfolding keepsCurveRule
 order-decides curve size black white = rw (eq-eqb (at curve 0) 0 black, eq-eqb (at curve 765) 765 white) (go (noneFalls 0 curve) refl)
   where
     go : (t : Bool) → noneFalls 0 curve ≡ t → t ≡ (noneExceeds curve && t)
     go true e = rw (risen-in-range curve size white e) refl
     go false e = sym (and-false (noneExceeds curve))
 
-pub curve-complete : (curve : List ℕ) → IsToneCurve curve → isToneCurve curve ≡ true
-unfolding isToneCurve
+pub curve-complete : (curve : List ℕ) → IsToneCurve curve → keepsCurveRule curve ≡ true
+unfolding keepsCurveRule
 curve-complete curve h =
     let size = h .size in
     rw (

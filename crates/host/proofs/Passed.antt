@@ -15,7 +15,7 @@ use Rattle.curve.specs.Choices.{isChoice}
 use Rattle.curve.specs.Curve.{IsToneCurve}
 use Rattle.shot.specs.Inner.{WholeShot}
 use Rattle.shot.specs.Shot.{pixelLimit}
-use Rattle.host.specs.CurveBytes.{curveLength, curveEntries, isToneCurve}
+use Rattle.host.specs.CurveBytes.{curveLength, curveEntries, keepsCurveRule}
 use Rattle.host.specs.Host.{curveChecks, entriesChecks, colourChecks}
 use Rattle.host.proofs.CurveBytes.{length-entries, curve-sound}
 
@@ -46,7 +46,7 @@ pub colour-passed : (curve : List ℕ) (method source destination : ℕ) → fir
     → Colourable curve method source destination
 colour-passed curve method source destination e =
     let (sized, rest) = passed (not (eqb (length curve) curveLength)) 10 _ (omega arith) e in
-    let (ruled, rest) = passed (not (isToneCurve (curveEntries curve))) 11 _ (omega arith) rest in
+    let (ruled, rest) = passed (not (keepsCurveRule (curveEntries curve))) 11 _ (omega arith) rest in
     let (known, rest) = passed (not (isMethod method)) 7 _ (omega arith) rest in
     let (whole, rest) = passed (not (isWhole source)) 2 _ (omega arith) rest in
     let (same, _) = passed (not (eqb destination source)) 8 _ (omega arith) rest in

@@ -8,12 +8,12 @@ use Rattle.curve.specs.Curve.{shareOf, wholeOf, cubeEntry, equalisedEntry, with
 use Rattle.curve.specs.Nearest.{nearer, nearestPlace}
 use Rattle.colouring.specs.Colouring.{colouredStrip}
 use Rattle.shot.specs.Book.{curveOf}
-use Rattle.host.specs.CurveBytes.{curveBytes, curveEntries, noneExceeds, noneFalls, isToneCurve}
+use Rattle.host.specs.CurveBytes.{curveBytes, curveEntries, noneExceeds, noneFalls, keepsCurveRule}
 use Rattle.host.specs.Host.{curveOutcome, colourOutcome}
 use Rattle.host.specs.Witness.{run, level, falling, dim, curveCalls, colourCalls, WitnessRuns}
 
 pub witness-runs : WitnessRuns
-unfolding run level falling dim curveCalls colourCalls curveOutcome colourOutcome curveBytes curveEntries noneExceeds noneFalls isToneCurve tabulate colouredStrip moved movedSample naikMurthy yangLee near toneCurve entry withEnds cubeEntry equalisedEntry shareOf wholeOf nearer nearestPlace G curveOf
+unfolding run level falling dim curveCalls colourCalls curveOutcome colourOutcome curveBytes curveEntries noneExceeds noneFalls keepsCurveRule tabulate colouredStrip moved movedSample naikMurthy yangLee near toneCurve entry withEnds cubeEntry equalisedEntry shareOf wholeOf nearer nearestPlace G curveOf
 witness-runs = record {
   curveNumbers = refl;
   lengths = refl;

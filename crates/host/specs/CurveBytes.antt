@@ -18,7 +18,7 @@ unfoldable pub curveBytes : List ℕ → List ℕ
 curveBytes [] = []
 curveBytes (entry ∷ entries) = (entry % 256) ∷ (entry / 256) ∷ curveBytes entries
 
--- The entries that bytes stand for, read in that order.
+-- The entries that bytes stand for, read in that order; a byte left over makes no entry.
 unfoldable pub curveEntries : List ℕ → List ℕ
 curveEntries [] = []
 curveEntries (low ∷ []) = []
@@ -36,13 +36,13 @@ noneFalls before (entry ∷ entries) = leb before entry && noneFalls entry entri
 
 -- "It accepts a curve only if entry 0 is 0, entry 765 is 765, none exceeds 765 and none is less than the one before." (Before entry 0
 -- there is none; no entry is less than 0.)
-unfoldable pub isToneCurve : List ℕ → Bool
-isToneCurve curve = eqb (at curve 0) 0 && eqb (at curve 765) 765 && noneExceeds curve && noneFalls 0 curve
+unfoldable pub keepsCurveRule : List ℕ → Bool
+keepsCurveRule curve = eqb (at curve 0) 0 && eqb (at curve 765) 765 && noneExceeds curve && noneFalls 0 curve
 
 -- Claim: 766 entries pass that test exactly if they are a tone curve. Proved: proofs/CurveBytes.antt, `test-is-the-rule`.
 pub record TestIsTheRule : Type 0 where
-  pub sound : (curve : List ℕ) → length curve ≡ 766 → isToneCurve curve ≡ true → IsToneCurve curve
-  pub complete : (curve : List ℕ) → IsToneCurve curve → isToneCurve curve ≡ true
+  pub sound : (curve : List ℕ) → length curve ≡ 766 → keepsCurveRule curve ≡ true → IsToneCurve curve
+  pub complete : (curve : List ℕ) → IsToneCurve curve → keepsCurveRule curve ≡ true
 
 -- Claim: a curve comes through its bytes, and 1,532 bytes come through their entries. So equal entries are equal bytes.
 -- Proved: proofs/CurveBytes.antt, `curves-travel`.

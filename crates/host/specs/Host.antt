@@ -11,14 +11,14 @@ use Rattle.curve.specs.Choices.{isChoice}
 use Rattle.colouring.specs.Colouring.{colouredStrip}
 use Rattle.shot.specs.Book.{curveOf}
 use Rattle.shot.specs.Shot.{pixelLimit}
-use Rattle.host.specs.CurveBytes.{curveLength, curveBytes, curveEntries, isToneCurve}
+use Rattle.host.specs.CurveBytes.{curveLength, curveBytes, curveEntries, keepsCurveRule}
 
 -- What a call leaves: the number that it hands back, and what the run lent for writing then holds.
 pub record Outcome : Type 0 where
   pub number : ℕ
   pub bytes : List ℕ
 
--- An accepted call writes these bytes. After a refused one the run holds what it held before.
+-- An accepted call writes these bytes. A refused one: "destination and curve bytes are not touched", the run holds what it held before.
 abbrev pub outcomeOf : ℕ → List ℕ → List ℕ → Outcome
 outcomeOf number written before = record { number = number; bytes = cond (eqb number 0) written before }
 
@@ -57,13 +57,13 @@ pub record ColourCall : Type 0 where
 -- Host colour 11, 7, 2, 8. 11: the curve breaks the rule. 7: the method is not 1 or 2. 2: the source's length is not a multiple of 3.
 -- 8: destination and source differ in length.
 abbrev pub colourRefusals : Bool → Bool → Bool → Bool → List Check
-colourRefusals accepted known whole same =
-    not accepted refuses 11 ∷ not known refuses 7 ∷ not whole refuses 2 ∷ not same refuses 8 ∷ []
+colourRefusals ruled known whole same =
+    not ruled refuses 11 ∷ not known refuses 7 ∷ not whole refuses 2 ∷ not same refuses 8 ∷ []
 
 -- The same, from the curve's entries, the method and the lengths of source and destination.
 abbrev pub entriesChecks : List ℕ → ℕ → ℕ → ℕ → List Check
 entriesChecks entries method sourceSize destinationSize =
-    colourRefusals (isToneCurve entries) (isMethod method) (isWhole sourceSize) (eqb destinationSize sourceSize)
+    colourRefusals (keepsCurveRule entries) (isMethod method) (isWhole sourceSize) (eqb destinationSize sourceSize)
 
 -- Before them 10, so that the order is 10, 11, 7, 2, 8: a curve's bytes are not 1,532 long.
 abbrev pub colourChecks : List ℕ → ℕ → ℕ → ℕ → List Check

@@ -15,19 +15,19 @@ use Rattle.host.specs.Host.{Outcome, CurveCall, curveChecks, curveOutcom
 unfoldable pub run : List ℕ
 run = replicate 1532 9
 
--- A curve call with a strip, a choice and a run.
-abbrev pub curve : List ℕ → ℕ → List ℕ → CurveCall
-curve strip choice run = record { strip = strip; choice = choice; curve = run }
+-- A curve call with a strip, a choice and a lent run.
+abbrev pub curveCall : List ℕ → ℕ → List ℕ → CurveCall
+curveCall strip choice lent = record { strip = strip; choice = choice; curve = lent }
 
--- (curve uneven 3 []) breaks 4, 10 and 2.
+-- (curveCall uneven 3 []) breaks 4, 10 and 2.
 unfoldable pub curveCalls : List CurveCall
 curveCalls =
-    curve uneven 3 []
-    ∷ curve uneven 1 []
-    ∷ curve uneven 1 run
-    ∷ curve [] 1 run
-    ∷ curve two 1 run
-    ∷ curve two 2 run
+    curveCall uneven 3 []
+    ∷ curveCall uneven 1 []
+    ∷ curveCall uneven 1 run
+    ∷ curveCall [] 1 run
+    ∷ curveCall two 1 run
+    ∷ curveCall two 2 run
     ∷ []
 
 -- The bytes, in what a call leaves, of the entries for the sums 59, 60, 629 and 630.
@@ -38,32 +38,33 @@ bytesAround o = map (at (o .bytes)) (118 ∷ 119 ∷ 120 ∷ 121 ∷ 1258 ∷ 12
 unfoldable pub level : List ℕ
 level = curveBytes (0 ∷ replicate 764 120 ++ (765 ∷ []))
 
--- The same with entry 764 lower than the one before, and with entry 765 as low as the others.
+-- The same with entry 764 lower than the one before.
 unfoldable pub falling : List ℕ
 falling = curveBytes (0 ∷ replicate 763 120 ++ (119 ∷ 765 ∷ []))
 
+-- The same with entry 765 as low as the others.
 unfoldable pub dim : List ℕ
 dim = curveBytes (0 ∷ replicate 765 120)
 
 -- A colour call with a curve, a method, a source and a destination.
-abbrev pub colour : List ℕ → ℕ → List ℕ → List ℕ → ColourCall
-colour curve method source destination =
+abbrev pub colourCall : List ℕ → ℕ → List ℕ → List ℕ → ColourCall
+colourCall curve method source destination =
     record { curve = curve; method = method; source = source; destination = destination }
 
--- (colour one 3 uneven one) breaks every rule: 10, 11, 7, 2 and 8. The last call is lent a curve that a curve call wrote.
+-- (colourCall one 3 uneven one) breaks every rule: 10, 11, 7, 2 and 8. The last call is lent a curve that a curve call wrote.
 unfoldable pub colourCalls : List ColourCall
 colourCalls =
-    colour one 3 uneven one
-    ∷ colour run 3 uneven one
-    ∷ colour falling 1 two both
-    ∷ colour dim 1 two both
-    ∷ colour level 3 uneven one
-    ∷ colour level 2 uneven one
-    ∷ colour level 2 two one
-    ∷ colour level 1 two both
-    ∷ colour level 2 two both
-    ∷ colour level 1 [] []
-    ∷ colour (curveOutcome (curve two 2 run) .bytes) 2 both two
+    colourCall one 3 uneven one
+    ∷ colourCall run 3 uneven one
+    ∷ colourCall falling 1 two both
+    ∷ colourCall dim 1 two both
+    ∷ colourCall level 3 uneven one
+    ∷ colourCall level 2 uneven one
+    ∷ colourCall level 2 two one
+    ∷ colourCall level 1 two both
+    ∷ colourCall level 2 two both
+    ∷ colourCall level 1 [] []
+    ∷ colourCall (curveOutcome (curveCall two 2 run) .bytes) 2 both two
     ∷ []
 
 -- Claim: so these calls run. Proved: proofs/Witness.antt, `witness-runs`.
@@ -71,11 +72,11 @@ pub record WitnessRuns : Type 0 where
   pub curveNumbers : map (λ c. curveOutcome c .number) curveCalls ≡ 4 ∷ 10 ∷ 2 ∷ 5 ∷ 0 ∷ 0 ∷ []
   -- 3, which needs more pixels than can be listed here, by the strip's length: the limit, one pixel more, and a byte more than that
   pub lengths : map (λ n. firstOf (curveChecks 1 1532 n)) (50331648 ∷ 50331651 ∷ 50331652 ∷ []) ≡ 0 ∷ 3 ∷ 2 ∷ []
-  pub untouched : curveOutcome (curve uneven 1 run) .bytes ≡ run
+  pub untouched : curveOutcome (curveCall uneven 1 run) .bytes ≡ run
   -- the strip has a pixel of the sum 60 and one of the sum 630; the cube curve's entries there are 0, 382, 382 and 765, the
   -- equalised one's 0, 383, 383 and 765
-  pub cube : bytesAround (curveOutcome (curve two 1 run)) ≡ 0 ∷ 0 ∷ 126 ∷ 1 ∷ 126 ∷ 1 ∷ 253 ∷ 2 ∷ []
-  pub equalised : bytesAround (curveOutcome (curve two 2 run)) ≡ 0 ∷ 0 ∷ 127 ∷ 1 ∷ 127 ∷ 1 ∷ 253 ∷ 2 ∷ []
+  pub cube : bytesAround (curveOutcome (curveCall two 1 run)) ≡ 0 ∷ 0 ∷ 126 ∷ 1 ∷ 126 ∷ 1 ∷ 253 ∷ 2 ∷ []
+  pub equalised : bytesAround (curveOutcome (curveCall two 2 run)) ≡ 0 ∷ 0 ∷ 127 ∷ 1 ∷ 127 ∷ 1 ∷ 253 ∷ 2 ∷ []
   pub colourNumbers : map (λ c. colourOutcome c .number) colourCalls ≡ 10 ∷ 11 ∷ 11 ∷ 11 ∷ 7 ∷ 2 ∷ 8 ∷ 0 ∷ 0 ∷ 0 ∷ 0 ∷ []
   pub pixels : map (λ c. length (written c)) colourCalls ≡ 0 ∷ 0 ∷ 0 ∷ 0 ∷ 0 ∷ 0 ∷ 0 ∷ 2 ∷ 2 ∷ 0 ∷ 2 ∷ []
   pub colourBytes : map (λ c. colourOutcome c .bytes) colourCalls

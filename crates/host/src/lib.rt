@@ -3,7 +3,7 @@ ghost use mathlib.Core.Path.{_≡_};
 ghost use Prim.Native.Nat.{_+_, _*_, _/_, _%_};
 ghost use lib.ListN.{length};
 ghost use Rattle.refusal.specs.Refusal.{firstOf};
-ghost use Rattle.host.specs.CurveBytes.{curveLength, curveBytes, curveEntries, noneFalls, isToneCurve};
+ghost use Rattle.host.specs.CurveBytes.{curveLength, curveBytes, curveEntries, noneFalls, keepsCurveRule};
 ghost use Rattle.host.specs.Host.{curveRefusals, curveChecks, curveOutcome, colourRefusals, entriesChecks, colourOutcome};
 
 // A curve travels as so many bytes.
@@ -72,9 +72,9 @@ fn none_falls(curve: [u16; 766]) -> bool
     true
 }
 
-// Whether the entries are a tone curve's. Where the last is 765 and none falls, none exceeds 765.
-fn is_tone_curve(curve: [u16; 766]) -> bool
-    ensures { λ r. ⌜ r ≡ isToneCurve curve ⌝ }
+// Whether the entries keep the rule by which a curve is accepted. Where the last is 765 and none falls, none exceeds 765.
+fn keeps_curve_rule(curve: [u16; 766]) -> bool
+    ensures { λ r. ⌜ r ≡ keepsCurveRule curve ⌝ }
 {
     if curve[0] != 0 {
         return false;
@@ -121,10 +121,10 @@ fn curve_number(choice: u32, run: usize, strip: usize) -> u32
 }
 
 // Host colour 11, 7, 2, 8, once the curve has its length: 0, or the number of the first that applies.
-fn colour_refusal(accepted: bool, known: bool, whole: bool, same: bool) -> u32
-    ensures { λ r. ⌜ r ≡ firstOf (colourRefusals accepted known whole same) ⌝ }
+fn colour_refusal(ruled: bool, known: bool, whole: bool, same: bool) -> u32
+    ensures { λ r. ⌜ r ≡ firstOf (colourRefusals ruled known whole same) ⌝ }
 {
-    if !accepted {
+    if !ruled {
         return 11;
     }
     if !known {
@@ -144,7 +144,7 @@ fn colour_number(curve: [u16; 766], method: u32, source: usize, destination: usi
     ensures { λ r. ⌜ r ≡ firstOf (entriesChecks curve method source destination) ⌝ }
 {
     colour_refusal(
-        is_tone_curve(curve),
+        keeps_curve_rule(curve),
         pixel::is_method(method),
         source % 3 == 0,
         destination == source,

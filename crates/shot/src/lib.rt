@@ -2,9 +2,9 @@
 ghost use mathlib.Core.Path.{_≡_};
 ghost use mathlib.Core.List.{[], _∷_};
 ghost use Prim.Native.Nat.{_+_, _≤_};
+ghost use lib.ListN.{length};
 ghost use Rattle.refusal.specs.Refusal.{firstOf};
 ghost use Rattle.pixel.specs.Strip.{pixelsOf};
-ghost use lib.ListN.{length};
 ghost use Rattle.shot.specs.Book.{curveOf};
 ghost use Rattle.shot.specs.Inner.{CountsFit, WholeShot};
 ghost use Rattle.shot.specs.Reachable.{Reachable};
@@ -201,8 +201,8 @@ impl Shot {
     }
 }
 
-// The tone curve of a strip taken as a whole shot: for the host's calls, which keep no shot. What it requires is what measuring and
-// fixing check, so neither is refused.
+// The tone curve of a strip taken as a whole shot: for the host's calls, which keep no shot. No outside call: it requires what
+// measuring and fixing check, so neither is refused.
 pub fn whole_shot_curve(strip: &[u8], choice: u32) -> [u16; 766]
     requires { ⌜ WholeShot (length (now strip)) choice ⌝ }
     ensures { λ r. ⌜ r ≡ curveOf choice (now (strip .entry) ∷ []) ⌝ }

@@ -4,8 +4,8 @@ use borrow.Author.Needs.{needs}
 use Rattle.host.proofs.colour_number.Statement.{statement}
 use Rattle.host.proofs.colour_number.Tie as tie
 
-is-tone-curve-requires : tie.Need-is-tone-curve-requires
-is-tone-curve-requires c κs = search needs
+keeps-curve-rule-requires : tie.Need-keeps-curve-rule-requires
+keeps-curve-rule-requires c κs = search needs
 
 is-method-requires : tie.Need-is-method-requires
 is-method-requires c κs = search needs
@@ -15,8 +15,8 @@ colour-refusal-requires c κs = search needs
 
 returns : tie.Need-returns
 returns c =
-    rw (sym (c .before .before .is-tone-curve .ensures), sym (c .before .is-method .ensures)) (c .colour-refusal .ensures)
+    rw (sym (c .before .before .keeps-curve-rule .ensures), sym (c .before .is-method .ensures)) (c .colour-refusal .ensures)
 
 pub colour-number-spec : {M : Type 1} → statement M
 colour-number-spec =
-    tie.close (tie.spec is-tone-curve-requires is-method-requires colour-refusal-requires returns)
+    tie.close (tie.spec keeps-curve-rule-requires is-method-requires colour-refusal-requires returns)

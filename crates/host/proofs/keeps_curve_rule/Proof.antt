@@ -1,9 +1,9 @@
--- `host::is_tone_curve` meets its contract.
+-- `host::keeps_curve_rule` meets its contract.
 use mathlib.Core.Path.{sym, _∙_}
 use Rattle.host.proofs.CurveBytes.{cannot, curve-sound, order-decides}
 use borrow.Author.Needs.{needs}
-use Rattle.host.proofs.is_tone_curve.Statement.{statement}
-use Rattle.host.proofs.is_tone_curve.Tie as tie
+use Rattle.host.proofs.keeps_curve_rule.Statement.{statement}
+use Rattle.host.proofs.keeps_curve_rule.Tie as tie
 
 array-read-if1 : tie.Need-array-read-if1
 array-read-if1 c = search needs
@@ -24,7 +24,7 @@ returns-3 : tie.Need-returns-3
 returns-3 c =
     c .none-falls .ensures ∙ order-decides _ (search needs) (c .before .before .if1 .left) (c .before .if2 .left)
 
-pub is-tone-curve-spec : {M : Type 1} → statement M
-is-tone-curve-spec =
+pub keeps-curve-rule-spec : {M : Type 1} → statement M
+keeps-curve-rule-spec =
     tie.close
     (tie.spec array-read-if1 returns array-read-if2 returns-2 none-falls-requires returns-3)

@@ -1,9 +1,9 @@
 -- Demand 3 for the host's calls.
-use mathlib.Core.Path.{_≡_, refl, sym, ap, subst, _∙_}
+use mathlib.Core.Path.{_≡_, refl, sym, subst, _∙_}
 use mathlib.Core.Bool.{Bool, true, false, cond}
 use mathlib.Core.List.{List, [], List·Memᴰ·not-nil}
 use Prim.Native.Nat.{ℕ}
-use borrow.Author.Tests.{eqb-true, eqb-false, ne-eqb}
+use borrow.Author.Tests.{eqb-true}
 use lib.Dec.{eqb}
 use lib.ListN.{length}
 use Rattle.tables.specs.Table.{_among_}
@@ -16,26 +16,18 @@ use Rattle.colouring.proofs.Written.{coloured-length, coloured-pixels-are-exact
 use Rattle.host.specs.Accuracy.{CurveAccurate, written, ColouringAccurate, HostAccurate}
 use Rattle.host.specs.CurveBytes.{curveEntries}
 use Rattle.host.specs.Host.{CurveCall, curveOutcome, ColourCall, colourOutcome}
-use Rattle.host.proofs.Agreement.{accepted, written-size, written-shape}
+use Rattle.host.proofs.Agreement.{accepted, made-size, written-shape}
+use Rattle.host.proofs.Outcomes.{outcome-untouched, outcome-size}
 use Rattle.host.proofs.Passed.{Colourable, colour-passed}
 
 -- what a curve call leaves
-module _ (c : CurveCall) (bytes : Bytes (c .strip)) where
-  curve-untouched : (curveOutcome c .number ≡ 0 → ⊥) → curveOutcome c .bytes ≡ c .curve
-  unfolding curveOutcome
-  curve-untouched refused = simp (ne-eqb (curveOutcome c .number) 0 refused)
-
-  curve-size : length (curveOutcome c .bytes) ≡ length (c .curve)
-  curve-size = go (eqb (curveOutcome c .number) 0) refl
-    where
-      go : (t : Bool) → eqb (curveOutcome c .number) 0 ≡ t → length (curveOutcome c .bytes) ≡ length (c .curve)
-      go true z =
-          let e = eqb-true (curveOutcome c .number) 0 z in
-          written-size c bytes e ∙ sym (accepted c e .0)
-      go false z = ap length (curve-untouched (eqb-false (curveOutcome c .number) 0 z))
-
-  curves : CurveAccurate c
-  curves = record { size = curve-size; untouched = curve-untouched; shape = written-shape c bytes }
+curves : (c : CurveCall) → Bytes (c .strip) → CurveAccurate c
+unfolding curveOutcome
+curves c bytes = record {
+  size = outcome-size (curveOutcome c .number) _ (c .curve) (λ e. made-size c bytes e ∙ sym (accepted c e .0));
+  untouched = outcome-untouched (curveOutcome c .number) _ (c .curve);
+  shape = written-shape c bytes;
+}
 
 -- what a colour call leaves
 module _ (c : ColourCall) where
@@ -48,21 +40,11 @@ module _ (c : ColourCall) where
   unfolding colourOutcome
   passed e = colour-passed (c .curve) (c .method) (length (c .source)) (length (c .destination)) e
 
-  -- the destination keeps its length
-  size : length (colourOutcome c .bytes) ≡ length (c .destination)
-  unfolding colourOutcome
-  size = go (eqb (colourOutcome c .number) 0) refl
-    where
-      go : (t : Bool) → eqb (colourOutcome c .number) 0 ≡ t → length (cond t coloured-source (c .destination)) ≡ length (c .destination)
-      go true z =
-          let ok = passed (eqb-true (colourOutcome c .number) 0 z) in
-          coloured-length (methodOf (c .method)) (curveEntries (c .curve)) (c .source) (ok .whole) ∙ sym (ok .same)
-      go false z = refl
-
-  -- and, if refused, every byte
-  untouched : (colourOutcome c .number ≡ 0 → ⊥) → colourOutcome c .bytes ≡ c .destination
-  unfolding colourOutcome
-  untouched refused = simp (ne-eqb (colourOutcome c .number) 0 refused)
+  -- the coloured source is as long as the destination
+  as-long : colourOutcome c .number ≡ 0 → length coloured-source ≡ length (c .destination)
+  as-long e =
+      let ok = passed e in
+      coloured-length (methodOf (c .method)) (curveEntries (c .curve)) (c .source) (ok .whole) ∙ sym (ok .same)
 
   -- a pixel was written by an accepted call, and is one of the coloured source
   by-curve : (w : Written) → w among written c
@@ -77,10 +59,11 @@ module _ (c : ColourCall) where
       go false z m = absurd (List·Memᴰ·not-nil m)
 
   colourings : Bytes (c .source) → ColouringAccurate c
+  unfolding colourOutcome
   colourings bytes = record {
     shape = λ e. passed e .shape;
-    size = size;
-    untouched = untouched;
+    size = outcome-size (colourOutcome c .number) coloured-source (c .destination) as-long;
+    untouched = outcome-untouched (colourOutcome c .number) coloured-source (c .destination);
     exact = λ w m. coloured-pixels-are-exact (methodOf (c .method)) (curveEntries (c .curve)) (c .source) w (by-curve w m .1);
     rules = λ w m.
         let (shape, member) = by-curve w m in

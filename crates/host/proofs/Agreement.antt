@@ -57,8 +57,11 @@ module _ (c : CurveCall) (bytes : Bytes (c .strip)) (e : Accepted c) where
   entries-are : curveEntries (curveOutcome c .bytes) ≡ fixAnswer c .shot .curve
   entries-are = ap curveEntries writes ∙ read-back (fixAnswer c .shot .curve)
 
-  pub written-size : length (curveOutcome c .bytes) ≡ curveLength
-  written-size = ap length (bytes-are c e) ∙ omega (arith, length-bytes (curveOf (c .choice) (c .strip ∷ [])), shape .size)
+  pub made-size : length (curveBytes (curveOf (c .choice) (c .strip ∷ []))) ≡ curveLength
+  made-size = omega (arith, length-bytes (curveOf (c .choice) (c .strip ∷ [])), shape .size)
+
+  written-size : length (curveOutcome c .bytes) ≡ curveLength
+  written-size = ap length (bytes-are c e) ∙ made-size
 
   pub written-shape : IsToneCurve (curveEntries (curveOutcome c .bytes))
   written-shape = subst IsToneCurve (sym (entries-are ∙ same-curve)) shape

@@ -65,7 +65,7 @@ unfolding curveBytes curveEntries
 read-back [] = refl
 read-back (entry ∷ entries) = ap₂ _∷_ (omega arith) (read-back entries)
 
--- and so does writing what was read
+-- writing what was read gives the bytes back
 written-back : (bytes : List ℕ) → length bytes % 2 ≡ 0 → Bytes bytes → curveBytes (curveEntries bytes) ≡ bytes
 unfolding curveBytes curveEntries
 written-back [] even small = refl

@@ -1,9 +1,11 @@
 -- The pixels that a colouring by a tone curve writes.
 use mathlib.Core.Path.{_≡_, refl, ap, _∙_, subst, sym}
-use mathlib.Core.Bool.{true}
-use mathlib.Core.List.{List}
+use mathlib.Core.Bool.{Bool, true, false, cond}
+use mathlib.Core.List.{List, [], List·Memᴰ·not-nil}
 use Prim.Native.Nat.{ℕ, _/_, _<_, _≤_}
 use native.Mathlib.Omega.{arith}
+use borrow.Author.Tests.{eqb-true}
+use lib.Dec.{eqb}
 use lib.ListN.{length}
 use Rattle.tables.specs.Table.{at, _among_}
 use Rattle.tables.proofs.Laws.{tabulate-member}
@@ -16,7 +18,7 @@ use Rattle.pixel.proofs.Accurate.{moves-are-accurate}
 use Rattle.pixel.proofs.Strips.{pixel-in-range, intensity-in-range}
 use Rattle.curve.specs.Curve.{IsToneCurve}
 use Rattle.colouring.specs.Colouring.{colouredStrip}
-use Rattle.colouring.specs.Written.{Written, WrittenAccurate, WrittenExact, colouredPixels, ColouredPixelsAreExact, ColouredPixelsAreAccurate, OneCurveKeepsOrder}
+use Rattle.colouring.specs.Written.{Written, WrittenAccurate, WrittenExact, pixelsWritten, colouredPixels, ColouredPixelsAreExact, ColouredPixelsAreAccurate, OneCurveKeepsOrder}
 use Rattle.colouring.proofs.EachPixel.{each-pixel-at, each-pixel-length}
 
 -- a coloured strip is as long as its source
@@ -36,6 +38,21 @@ pub coloured-pixels-are-exact : ColouredPixelsAreExact
 coloured-pixels-are-exact method curve source w m =
     let (i, inside, e) = tabulate-member _ (length source / 3) w m in
     subst WrittenExact (sym e) (coloured-at method curve source i inside)
+
+-- where the pixels written are those of an accepted call, by the number 0, one of them shows that it was accepted
+pub written-accepted : (number : ℕ) (method : Method) (curve by source destination : List ℕ) (w : Written)
+    → w
+    among cond (eqb number 0)
+    (pixelsWritten method curve source (cond (eqb number 0) (colouredStrip method by source) destination))
+    []
+    → (number ≡ 0) × (w among pixelsWritten method curve source (colouredStrip method by source))
+written-accepted number method curve by source destination w m = go (eqb number 0) refl m
+  where
+    go : (t : Bool) → eqb number 0 ≡ t
+        → w among cond t (pixelsWritten method curve source (cond t (colouredStrip method by source) destination)) []
+        → (number ≡ 0) × (w among pixelsWritten method curve source (colouredStrip method by source))
+    go true z m = (eqb-true number 0 z, m)
+    go false z m = absurd (List·Memᴰ·not-nil m)
 
 -- a tone curve's entry for black is 0, and its entry for white is 765
 own-ends : (curve : List ℕ) → IsToneCurve curve → (p : Pixel) → OwnEnds p (at curve (intensity p))

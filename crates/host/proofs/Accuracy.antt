@@ -1,31 +1,31 @@
 -- Demand 3 for the host's calls.
 use mathlib.Core.Path.{_≡_, refl, sym, subst, _∙_}
-use mathlib.Core.Bool.{Bool, true, false, cond}
-use mathlib.Core.List.{List, [], List·Memᴰ·not-nil}
+use mathlib.Core.List.{List}
 use Prim.Native.Nat.{ℕ}
-use borrow.Author.Tests.{eqb-true}
-use lib.Dec.{eqb}
 use lib.ListN.{length}
+use Rattle.refusal.proofs.Laws.{refused-leaves, either-leaves}
 use Rattle.tables.specs.Table.{_among_}
 use Rattle.pixel.specs.Methods.{methodOf}
 use Rattle.pixel.specs.Strip.{Bytes}
 use Rattle.curve.specs.Curve.{IsToneCurve}
 use Rattle.colouring.specs.Colouring.{colouredStrip}
-use Rattle.colouring.specs.Written.{Written, pixelsWritten, colouredPixels}
-use Rattle.colouring.proofs.Written.{coloured-length, coloured-pixels-are-exact, coloured-pixels-are-accurate, one-curve-keeps-order}
+use Rattle.colouring.specs.Written.{Written, colouredPixels}
+use Rattle.colouring.proofs.Written.{coloured-length, written-accepted, coloured-pixels-are-exact, coloured-pixels-are-accurate, one-curve-keeps-order}
 use Rattle.host.specs.Accuracy.{CurveAccurate, written, ColouringAccurate, HostAccurate}
 use Rattle.host.specs.CurveBytes.{curveEntries}
 use Rattle.host.specs.Host.{CurveCall, curveOutcome, ColourCall, colourOutcome}
 use Rattle.host.proofs.Agreement.{accepted, made-size, written-shape}
-use Rattle.host.proofs.Outcomes.{outcome-untouched, outcome-size}
 use Rattle.host.proofs.Passed.{Colourable, colour-passed}
 
 -- what a curve call leaves
 curves : (c : CurveCall) → Bytes (c .strip) → CurveAccurate c
 unfolding curveOutcome
 curves c bytes = record {
-  size = outcome-size (curveOutcome c .number) _ (c .curve) (λ e. made-size c bytes e ∙ sym (accepted c e .0));
-  untouched = outcome-untouched (curveOutcome c .number) _ (c .curve);
+  size =
+      either-leaves (curveOutcome c .number) _ (c .curve) (λ (bytes : List ℕ). length bytes ≡ length (c .curve))
+      (λ e. made-size c bytes e ∙ sym (accepted c e .0))
+      refl;
+  untouched = refused-leaves (curveOutcome c .number) _ (c .curve);
   shape = written-shape c bytes;
 }
 
@@ -50,20 +50,19 @@ module _ (c : ColourCall) where
   by-curve : (w : Written) → w among written c
       → IsToneCurve (curveEntries (c .curve)) × (w among colouredPixels (methodOf (c .method)) (curveEntries (c .curve)) (c .source))
   unfolding colourOutcome
-  by-curve w m = go (eqb (colourOutcome c .number) 0) refl m
-    where
-      go : (t : Bool) → eqb (colourOutcome c .number) 0 ≡ t
-          → w among cond t (pixelsWritten (methodOf (c .method)) (curveEntries (c .curve)) (c .source) (cond t coloured-source (c .destination))) []
-          → IsToneCurve (curveEntries (c .curve)) × (w among colouredPixels (methodOf (c .method)) (curveEntries (c .curve)) (c .source))
-      go true z m = (passed (eqb-true (colourOutcome c .number) 0 z) .shape, m)
-      go false z m = absurd (List·Memᴰ·not-nil m)
+  by-curve w m =
+      let entries = curveEntries (c .curve) in
+      let (e, member) = written-accepted (colourOutcome c .number) (methodOf (c .method)) entries entries (c .source) (c .destination) w m in
+      (passed e .shape, member)
 
   colourings : Bytes (c .source) → ColouringAccurate c
   unfolding colourOutcome
   colourings bytes = record {
     shape = λ e. passed e .shape;
-    size = outcome-size (colourOutcome c .number) coloured-source (c .destination) as-long;
-    untouched = outcome-untouched (colourOutcome c .number) coloured-source (c .destination);
+    size =
+        either-leaves (colourOutcome c .number) coloured-source (c .destination)
+        (λ (bytes : List ℕ). length bytes ≡ length (c .destination)) as-long refl;
+    untouched = refused-leaves (colourOutcome c .number) coloured-source (c .destination);
     exact = λ w m. coloured-pixels-are-exact (methodOf (c .method)) (curveEntries (c .curve)) (c .source) w (by-curve w m .1);
     rules = λ w m.
         let (shape, member) = by-curve w m in

@@ -1,6 +1,6 @@
 -- Laws of a curve's bytes and of the rule by which a curve is accepted.
 use mathlib.Core.Path.{_≡_, refl, sym, ap, ap₂, _∙_}
-use mathlib.Core.Bool.{Bool, true, false, _&&_}
+use mathlib.Core.Bool.{Bool, true, false, _&&_, and-false}
 use mathlib.Core.List.{List, [], _∷_}
 use Prim.Native.Nat.{ℕ, zero, suc, _+_, _*_, _/_, _%_, _≤_, _<_}
 use native.Mathlib.Nat.{le-of-suc-le-suc}
@@ -9,7 +9,7 @@ use borrow.Author.Tests.{eqb-true, leb-true, eq-eqb, le-leb}
 use lib.Dec.{leb, eqb}
 use lib.ListN.{length}
 use Rattle.tables.specs.Table.{at}
-use Rattle.tables.proofs.Cases.{true-false, either}
+use Rattle.tables.proofs.Cases.{both, either}
 use Rattle.pixel.specs.Strip.{Bytes}
 use Rattle.curve.specs.Curve.{IsToneCurve}
 use Rattle.host.specs.CurveBytes.{curveBytes, curveEntries, noneExceeds, noneFalls, keepsCurveRule, TestIsTheRule, CurvesTravel}
@@ -73,20 +73,6 @@ written-back (low ∷ []) even small = absurd (omega arith)
 written-back (low ∷ high ∷ bytes) even small =
     ap₂ _∷_ (omega (arith, small 0))
     (ap₂ _∷_ (omega (arith, small 0)) (written-back bytes (omega arith) (λ i. small (suc (suc i)))))
-
--- both tests hold
-both : (t u : Bool) → (t && u) ≡ true → (t ≡ true) × (u ≡ true)
-both true u e = (refl, e)
-both false u e = absurd (true-false (sym e))
-
-and-false : (t : Bool) → (t && false) ≡ false
-and-false true = refl
-and-false false = refl
-
--- a test that cannot hold
-pub cannot : (t : Bool) → (t ≡ true → ⊥) → t ≡ false
-cannot true never = absurd (never refl)
-cannot false never = refl
 
 -- the first n entries do not fall
 abbrev pub Rises : List ℕ → ℕ → Type 0

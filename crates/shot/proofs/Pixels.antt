@@ -1,21 +1,20 @@
 -- What one call leaves in the destination, and the pixels that it writes.
 use mathlib.Core.Path.{_≡_, refl, sym, ap, _∙_, subst}
-use mathlib.Core.Bool.{Bool, true, false, cond}
+use mathlib.Core.Bool.{Bool, true, false, cond, false≢true}
 use mathlib.Core.List.{List, [], List·Memᴰ·not-nil}
 use mathlib.Core.Option.{Option, none, some}
 use Prim.Native.Nat.{ℕ}
-use borrow.Author.Tests.{eqb-true, ne-eqb}
 use lib.Dec.{eqb}
 use lib.ListN.{length}
+use Rattle.refusal.proofs.Laws.{refused-leaves, either-leaves}
 use Rattle.tables.specs.Table.{tabulate, _among_}
-use Rattle.tables.proofs.Cases.{true-false}
 use Rattle.pixel.specs.Methods.{methodOf}
 use Rattle.pixel.specs.Strip.{Bytes}
 use Rattle.pixel.specs.declared.Method.{Method}
 use Rattle.curve.specs.Curve.{IsToneCurve}
 use Rattle.colouring.specs.Colouring.{colouredStrip}
 use Rattle.colouring.specs.Written.{Written, pixelsWritten, colouredPixels}
-use Rattle.colouring.proofs.Written.{coloured-length}
+use Rattle.colouring.proofs.Written.{coloured-length, written-accepted}
 use Rattle.shot.specs.Accuracy.{noRequest, requested, entries, writtenFor}
 use Rattle.shot.specs.Book.{Call, Call.opening, Call.measuring, Call.fixing, Call.colouring, Book, hasCurve}
 use Rattle.shot.specs.Run.{step, WellFormed}
@@ -41,17 +40,14 @@ module _ (number : ℕ) (x : Shot) (q : ColourRequest) where
 
   -- the destination keeps its length
   carried-size : Passes number x q → length (carriedOut number x q .bytes) ≡ length (q .destination)
-  carried-size ok = go (eqb number 0) refl
-    where
-      go : (t : Bool) → eqb number 0 ≡ t → length (cond t coloured-bytes (q .destination)) ≡ length (q .destination)
-      go true z =
-          let passed = ok (eqb-true number 0 z) in
-          coloured-length (methodOf (q .method)) (x .curve) (q .source) (passed .whole) ∙ sym (passed .same)
-      go false z = refl
+  carried-size ok =
+      either-leaves number coloured-bytes (q .destination) (λ (bytes : List ℕ). length bytes ≡ length (q .destination))
+      (λ e. coloured-length (methodOf (q .method)) (x .curve) (q .source) (ok e .whole) ∙ sym (ok e .same))
+      refl
 
   -- and, if refused, every byte
   pub carried-untouched : (number ≡ 0 → ⊥) → carriedOut number x q .bytes ≡ q .destination
-  carried-untouched refused = simp (ne-eqb number 0 refused)
+  carried-untouched = refused-leaves number coloured-bytes (q .destination)
 
 -- the same of each call; a call that is no colouring has no destination
 pub step-size : (x : Shot) (c : Call) → length (step x c .bytes) ≡ length (requested c .destination)
@@ -80,7 +76,7 @@ pub record ByBook (b : Book) (w : Written) : Type 0 where
 
 -- a fixed shot's book has a curve
 pub has-some : (o : Option (List ℕ)) → hasCurve o ≡ true → (curve : List ℕ) × (o ≡ some curve)
-has-some none e = absurd (true-false (sym e))
+has-some none e = absurd (false≢true e)
 has-some (some curve) e = (curve, refl)
 
 -- a call that asks for no pixel writes none
@@ -95,30 +91,22 @@ none-asked number b w m = absurd (go (eqb number 0) m)
 -- a colouring writes by the book's curve
 carried-written : (number : ℕ) {x : Shot} {b : Book} → Sound x b → (q : ColourRequest) → Passes number x q → Bytes (q .source)
     → (w : Written) → w among writtenFor number b q (carriedOut number x q .bytes) → ByBook b w
-carried-written number {x} {b} h q ok bytes w m = go (eqb number 0) refl m
-  where
-    go : (t : Bool) → eqb number 0 ≡ t
-        → w
-        among cond t
-        (pixelsWritten (methodOf (q .method)) (entries (b .curve)) (q .source) (cond t (coloured-bytes number x q) (q .destination)))
-        []
-        → ByBook b w
-    go true z m =
-        let (curve, is) = has-some (b .curve) (sym (h .represents .fixed) ∙ ok (eqb-true number 0 z) .isFixed) in
-        let method = methodOf (q .method) in
-        record {
-          curve = curve;
-          isCurve = is;
-          shape = h .curve curve is;
-          method = method;
-          source = q .source;
-          bytes = bytes;
-          member =
-              subst (λ (l : List ℕ). w among pixelsWritten method curve (q .source) (colouredStrip method l (q .source)))
-              (h .represents .curve curve is)
-              (subst (λ (l : List ℕ). w among pixelsWritten method l (q .source) (coloured-bytes number x q)) (ap entries is) m);
-        }
-    go false z m = absurd (List·Memᴰ·not-nil m)
+carried-written number {x} {b} h q ok bytes w m =
+    let method = methodOf (q .method) in
+    let (accepted, member) = written-accepted number method (entries (b .curve)) (x .curve) (q .source) (q .destination) w m in
+    let (curve, is) = has-some (b .curve) (sym (h .represents .fixed) ∙ ok accepted .isFixed) in
+    record {
+      curve = curve;
+      isCurve = is;
+      shape = h .curve curve is;
+      method = method;
+      source = q .source;
+      bytes = bytes;
+      member =
+          subst (λ (l : List ℕ). w among pixelsWritten method curve (q .source) (colouredStrip method l (q .source)))
+          (h .represents .curve curve is)
+          (subst (λ (l : List ℕ). w among pixelsWritten method l (q .source) (coloured-bytes number x q)) (ap entries is) member);
+    }
 
 -- each call writes by the book's curve
 pub step-written : {x : Shot} {b : Book} → Sound x b → (c : Call) → WellFormed c

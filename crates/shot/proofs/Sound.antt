@@ -1,6 +1,6 @@
 -- The shot represents the book after every call.
 use mathlib.Core.Path.{_≡_, refl, sym, ap, subst, _∙_}
-use mathlib.Core.Bool.{Bool, true, false, cond}
+use mathlib.Core.Bool.{Bool, true, false, cond, false≢true}
 use mathlib.Core.List.{List, List·Memᴰ·not-nil, List·Memᴰ·append-cases}
 use mathlib.Core.Logic.{⊎-elim}
 use mathlib.Core.Option.{Option, none, some}
@@ -10,7 +10,7 @@ use borrow.Author.Tests.{eqb-true}
 use lib.Dec.{eqb}
 use lib.ListN.{length, length-append, length-replicate, getD-replicate}
 use Rattle.tables.specs.Table.{at, _among_}
-use Rattle.tables.proofs.Cases.{true-false, cond-same}
+use Rattle.tables.proofs.Cases.{cond-same}
 use Rattle.tables.proofs.Laws.{length-tabulate, at-tabulate}
 use Rattle.pixel.specs.Strip.{pixelsOf, Bytes}
 use Rattle.pixel.specs.declared.Pixel.{Pixel}
@@ -39,7 +39,7 @@ pub record Sound (x : Shot) (b : Book) : Type 0 where
 
 -- no curve is not some curve
 pub no-curve : {c : List ℕ} → _≡_ {A = Option (List ℕ)} none (some c) → ⊥
-no-curve e = true-false (sym (ap hasCurve e))
+no-curve e = false≢true (ap hasCurve e)
 
 -- one curve is the other
 pub some-same : {c d : List ℕ} → some c ≡ some d → c ≡ d

@@ -1,6 +1,6 @@
 -- What a step of the list has behind it.
 use mathlib.Core.Path.{_≡_, refl, sym, ap, _∙_, subst}
-use mathlib.Core.Bool.{Bool, true, false, cond}
+use mathlib.Core.Bool.{Bool, true, false, cond, true≢false, false≢true}
 use mathlib.Core.List.{List, [], _∷_, _++_, append-assoc, append-nil, List·Memᴰ·head, List·Memᴰ·tail, List·Memᴰ·not-nil, List·Memᴰ·append-cases, Memᴰ·append-left, Memᴰ·append-right, List·Memᴰ·eq-of-singleton}
 use mathlib.Core.Logic.{⊎-elim}
 use mathlib.Core.Option.{Option, none, some}
@@ -9,7 +9,7 @@ use native.Mathlib.Omega.{arith}
 use borrow.Author.Tests.{eqb-true, eq-eqb, ne-eqb}
 use lib.Dec.{eqb}
 use Rattle.tables.specs.Table.{_among_}
-use Rattle.tables.proofs.Cases.{true-false, cond-same}
+use Rattle.tables.proofs.Cases.{cond-same}
 use Rattle.shot.specs.Accuracy.{stripOf, stripsMeasured, FixedBy}
 use Rattle.shot.specs.Book.{Call, Call.opening, Call.measuring, Call.fixing, Call.colouring, Book, emptyBook, curveOf, expectedAnswer, entered, bookStep}
 use Rattle.shot.specs.Run.{Step, number, isOpening}
@@ -18,13 +18,13 @@ use Rattle.shot.proofs.Sound.{no-curve, some-same}
 -- an opening empties the book
 book-opened : (b : Book) (c : Call) → isOpening c ≡ true → bookStep b c ≡ emptyBook
 book-opened b opening o = refl
-book-opened b (measuring strip) o = absurd (true-false (sym o))
-book-opened b (fixing choice) o = absurd (true-false (sym o))
-book-opened b (colouring q) o = absurd (true-false (sym o))
+book-opened b (measuring strip) o = absurd (false≢true o)
+book-opened b (fixing choice) o = absurd (false≢true o)
+book-opened b (colouring q) o = absurd (false≢true o)
 
 -- of the other calls an accepted measuring adds its strip, and nothing else changes those held
 entered-strips : (b : Book) (c : Call) → isOpening c ≡ false → entered b c .strips ≡ b .strips ++ stripOf c
-entered-strips b opening o = absurd (true-false o)
+entered-strips b opening o = absurd (true≢false o)
 entered-strips b (measuring strip) o = refl
 entered-strips b (fixing choice) o = simp append-nil
 entered-strips b (colouring q) o = simp append-nil
@@ -40,7 +40,7 @@ book-strips b c o = go (eqb (expectedAnswer b c) 0)
 
 -- a book with a curve stays as it is until the next opening
 book-stays : (b : Book) (c : Call) (curve : List ℕ) → isOpening c ≡ false → b .curve ≡ some curve → bookStep b c ≡ b
-book-stays b opening curve o e = absurd (true-false o)
+book-stays b opening curve o e = absurd (true≢false o)
 book-stays b (measuring strip) curve o e = simp e
 book-stays b (fixing choice) curve o e = simp e
 book-stays b (colouring q) curve o e = cond-same (eqb (expectedAnswer b (colouring q)) 0) b

@@ -1,14 +1,19 @@
 -- Case distinctions.
 use mathlib.Core.Path.{_≡_, refl, sym}
-use mathlib.Core.Bool.{Bool, true, false, _||_, cond}
+use mathlib.Core.Bool.{Bool, true, false, _&&_, _||_, cond, false≢true}
 use Prim.Native.Nat.{ℕ, _≤_, _<_}
-use native.Mathlib.Omega.{arith}
 use borrow.Author.Tests.{eqb-true, leb-true, leb-false}
 use lib.Dec.{eqb, leb}
 
--- true is not false
-pub true-false : true ≡ false → ⊥
-true-false e = let bad : _≡_ {A = ℕ} 0 1 = cc in omega arith
+-- both tests hold
+pub both : (t u : Bool) → (t && u) ≡ true → (t ≡ true) × (u ≡ true)
+both true u e = (refl, e)
+both false u e = absurd (false≢true e)
+
+-- a test that cannot hold
+pub cannot : (t : Bool) → (t ≡ true → ⊥) → t ≡ false
+cannot true never = absurd (never refl)
+cannot false never = refl
 
 -- one value whatever the test
 pub cond-same : {A : Type 0} (t : Bool) (a : A) → cond t a a ≡ a

@@ -1,6 +1,7 @@
 -- `host::keeps_curve_rule` meets its contract.
 use mathlib.Core.Path.{sym, _∙_}
-use Rattle.host.proofs.CurveBytes.{cannot, curve-sound, order-decides}
+use Rattle.tables.proofs.Cases.{cannot}
+use Rattle.host.proofs.CurveBytes.{curve-sound, order-decides}
 use borrow.Author.Needs.{needs}
 use Rattle.host.proofs.keeps_curve_rule.Statement.{statement}
 use Rattle.host.proofs.keeps_curve_rule.Tie as tie

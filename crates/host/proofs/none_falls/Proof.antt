@@ -3,8 +3,9 @@ use mathlib.Core.Path.{_≡_, sym}
 use Prim.Native.Nat.{_+_, _-_, _≤_}
 use native.Mathlib.Omega.{arith}
 use lib.ListN.{length}
+use Rattle.tables.proofs.Cases.{cannot}
 use Rattle.host.specs.CurveBytes.{noneFalls}
-use Rattle.host.proofs.CurveBytes.{cannot, Rises, rises-one, rises-more, falls-sound, falls-complete}
+use Rattle.host.proofs.CurveBytes.{Rises, rises-one, rises-more, falls-sound, falls-complete}
 use borrow.Author.Needs.{needs}
 use Rattle.host.proofs.none_falls.Statement.{statement}
 use Rattle.host.proofs.none_falls.Tie as tie

@@ -1,5 +1,5 @@
 -- A shot that is opened, measured by one strip and fixed.
-use mathlib.Core.Path.{_≡_, refl, subst, _∙_}
+use mathlib.Core.Path.{_≡_, refl, ap, subst, _∙_}
 use mathlib.Core.Bool.{true}
 use mathlib.Core.List.{List, [], _∷_, append-nil}
 use mathlib.Core.Option.{none}
@@ -7,14 +7,23 @@ use Prim.Native.Nat.{ℕ, _+_, _<_}
 use native.Mathlib.Omega.{arith}
 use borrow.Author.Tests.{le-ltb, eq-eqb, ne-eqb}
 use lib.ListN.{length}
-use Rattle.pixel.specs.Strip.{pixelsOf, Bytes}
+use Rattle.pixel.specs.Methods.{isMethod, methodOf}
+use Rattle.pixel.specs.Strip.{isWhole, pixelsOf, Bytes}
 use Rattle.pixel.proofs.Strips.{whole-means, length-pixels}
 use Rattle.curve.specs.Curve.{IsToneCurve}
+use Rattle.colouring.specs.Colouring.{colouredStrip}
 use Rattle.shot.specs.Book.{Call.measuring, Call.fixing, Book, emptyBook, pixelsIn, curveOf, expectedAnswer, entered}
 use Rattle.shot.specs.Inner.{WholeShot}
-use Rattle.shot.specs.Shot.{pixelLimit, opened, measured, fixedWith}
+use Rattle.shot.specs.Shot.{pixelLimit, opened, measured, fixedWith, ColourRequest, coloured}
 use Rattle.shot.specs.declared.Answer.{Answer}
+use Rattle.shot.specs.declared.Shot.{Shot}
 use Rattle.shot.proofs.Sound.{Sound, sound-opened, answers-agree, sound-step}
+
+-- for callers: what fixing hands back, where the calls were made one after the other
+pub in-turn : (strip : List ℕ) (choice : ℕ) (o : Shot) (a b : Answer) → o ≡ opened → a ≡ measured o strip → b ≡ fixedWith (a .shot) choice
+    → b ≡ fixedWith (measured opened strip .shot) choice
+in-turn strip choice o a b eo ea eb =
+    eb ∙ ap (λ (answer : Answer). fixedWith (answer .shot) choice) (ea ∙ ap (λ (x : Shot). measured x strip) eo)
 
 module _ (strip : List ℕ) (bytes : Bytes strip) (choice : ℕ) (ok : WholeShot (length strip) choice) where
   -- what measuring and then fixing hand back
@@ -62,3 +71,14 @@ module _ (strip : List ℕ) (bytes : Bytes strip) (choice : ℕ) (ok : WholeShot
 
   pub curve-shape : IsToneCurve (curveOf choice (strip ∷ []))
   curve-shape = fixed-sound .curve _ refl
+
+  -- colouring from it accepts every fitting request, and writes by that curve
+  pub colour-accepted : (q : ColourRequest) → isMethod (q .method) ≡ true → isWhole (length (q .source)) ≡ true
+      → length (q .destination) ≡ length (q .source)
+      → coloured (fixing-it .shot) q
+      ≡ record {
+        answer = record { shot = fixing-it .shot; number = 0 };
+        bytes = colouredStrip (methodOf (q .method)) (curveOf choice (strip ∷ [])) (q .source);
+      }
+  unfolding coloured
+  colour-accepted q known whole same = rw (is-fixed, known, whole, eq-eqb _ _ same, curve-is) refl

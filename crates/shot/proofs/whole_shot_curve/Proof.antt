@@ -1,14 +1,10 @@
 -- `shot::whole_shot_curve` meets its contract.
-use mathlib.Core.Path.{_≡_, ap, _∙_}
-use mathlib.Core.List.{List}
-use Prim.Native.Nat.{ℕ}
+use mathlib.Core.Path.{ap, _∙_}
 use native.Mathlib.Omega.{arith}
 use borrow.Author.Needs.{needs}
 use Rattle.pixel.specs.Strip.{Bytes}
-use Rattle.shot.specs.Shot.{opened, measured, fixedWith}
 use Rattle.shot.specs.declared.Answer.{Answer}
-use Rattle.shot.specs.declared.Shot.{Shot}
-use Rattle.shot.proofs.OneStrip.{curve-is}
+use Rattle.shot.proofs.OneStrip.{in-turn, curve-is}
 use Rattle.shot.proofs.Premise.{from-open, from-measure}
 use Rattle.shot.proofs.whole_shot_curve.Statement.{statement}
 use Rattle.shot.proofs.whole_shot_curve.Tie as tie
@@ -28,18 +24,12 @@ fix-requires c κs =
     let measuring = c .before in
     from-measure _ (from-open (measuring .before .«open» .ensures)) (bytes measuring) (measuring .measure .ensures)
 
--- the calls, one after the other
-one-by-one : (strip : List ℕ) (choice : ℕ) (o : Shot) (a b : Answer) → o ≡ opened → a ≡ measured o strip → b ≡ fixedWith (a .shot) choice
-    → b ≡ fixedWith (measured opened strip .shot) choice
-one-by-one strip choice o a b eo ea eb =
-    eb ∙ ap (λ (answer : Answer). fixedWith (answer .shot) choice) (ea ∙ ap (λ (x : Shot). measured x strip) eo)
-
 returns : tie.Need-returns
 returns c =
     let fixing = c .before .before in
     let measuring = fixing .before .before in
     let start = measuring .before .before .before in
-    let answer = one-by-one _ _ _ _ _ (measuring .before .«open» .ensures) (measuring .measure .ensures) (fixing .fix .ensures) in
+    let answer = in-turn _ _ _ _ _ (measuring .before .«open» .ensures) (measuring .measure .ensures) (fixing .fix .ensures) in
     ap (λ (a : Answer). a .shot .curve) answer ∙ curve-is (start .args .strip .now) (bytes measuring) (start .args .choice) (start .pre)
 
 pub whole-shot-curve-spec : {M : Type 1} → statement M

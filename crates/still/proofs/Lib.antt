@@ -1,0 +1,5 @@
+pub mod Sizes
+pub mod Samples
+pub mod Answers
+pub mod Limits
+pub mod Agreement

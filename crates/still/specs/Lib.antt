@@ -1,0 +1,4 @@
+pub mod Still
+pub mod Inner
+pub mod Limits
+pub mod Agreement

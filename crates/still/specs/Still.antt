@@ -1,0 +1,78 @@
+-- The whole job of one still picture (document 01, "Frames from a file"): from the bytes of a file to the bytes to write.
+use mathlib.Core.Bool.{cond}
+use mathlib.Core.List.{List, [], _∷_, _++_}
+use Prim.Native.Nat.{ℕ, _*_}
+use lib.Dec.{ltb, eqb}
+use lib.ListN.{length, drop}
+use Rattle.refusal.specs.Refusal.{Check, _refuses_, firstOf}
+use Rattle.text.specs.Decimal.{decimal}
+use Rattle.text.specs.Text.{ascii, writtenAt}
+use Rattle.pixel.specs.Methods.{methodOf}
+use Rattle.colouring.specs.Colouring.{colouredStrip}
+use Rattle.shot.specs.Book.{curveOf}
+use Rattle.netpbm.specs.Header.{headerOf, numberOf, headerText}
+use Rattle.netpbm.specs.declared.Header.{Header}
+use Rattle.netpbm.specs.declared.Reading.{Reading}
+use Rattle.netpbm.specs.declared.Reading.the-variants.{Accepted, Malformed, OtherLargest, OtherSize}
+
+-- "fixes the cube curve from it": choice 1.
+abbrev pub fileChoice : ℕ
+fileChoice = 1
+
+-- "colours it by method 2"
+abbrev pub fileMethod : ℕ
+fileMethod = 2
+
+-- The samples, coloured by that method and their own curve: the book's curve of this one strip.
+unfoldable pub balanced : List ℕ → List ℕ
+balanced samples = colouredStrip (methodOf fileMethod) (curveOf fileChoice (samples ∷ [])) samples
+
+-- A picture that is written: header, then samples.
+unfoldable pub picture : ℕ → ℕ → List ℕ → List ℕ
+picture width height samples = headerText width height ++ balanced samples
+
+-- "A refusal writes only `refused `, the number in decimal, LF."
+unfoldable pub refusalLine : ℕ → List ℕ
+refusalLine number = ascii "refused " ++ decimal number ++ ascii "\n"
+
+-- How many samples a header says: three to a pixel.
+abbrev pub samplesDue : Header → ℕ
+samplesDue header = 3 * (header .width * header .height)
+
+-- File 15, 16, by how many samples are due and how many bytes there are. 15: fewer samples than the header says. 16: bytes after the
+-- samples.
+abbrev pub sampleChecks : ℕ → ℕ → List Check
+sampleChecks due there = ltb there due refuses 15 ∷ ltb due there refuses 16 ∷ []
+
+-- What is written for a header that is accepted and the bytes after it: the picture, or the refusal.
+unfoldable pub pictureAnswer : Header → List ℕ → List ℕ
+pictureAnswer header samples =
+    let number = firstOf (sampleChecks (samplesDue header) (length samples)) in
+    cond (eqb number 0) (picture (header .width) (header .height) samples) (refusalLine number)
+
+-- What is written for a file, by what reading its header answers. File 12, 13, 14, 15, 16: the header's own refusals come first.
+abbrev pub answerTo : Reading → List ℕ → List ℕ
+answerTo (Accepted header) file = pictureAnswer header (drop (header .samples) file)
+answerTo Malformed file = refusalLine (numberOf Malformed)
+answerTo OtherLargest file = refusalLine (numberOf OtherLargest)
+answerTo OtherSize file = refusalLine (numberOf OtherSize)
+
+-- What `balance` writes for a file.
+unfoldable pub answer : List ℕ → List ℕ
+answer file = answerTo (headerOf file) file
+
+-- An output of so many bytes has room for every answer (specs/Limits.antt).
+abbrev pub outputLimit : ℕ
+outputLimit = 49171
+
+-- What the job leaves: how many bytes are to be written, and what the output then holds.
+pub record Outcome : Type 0 where
+  pub size : ℕ
+  pub output : List ℕ
+
+-- The answer stands at the start of the output, and the rest stays as it was. A shorter output than asked for stays as it was, and no
+-- byte is to be written.
+unfoldable pub outcome : List ℕ → List ℕ → Outcome
+outcome file output =
+    cond (ltb (length output) outputLimit) (record { size = 0; output = output })
+    (record { size = length (answer file); output = writtenAt 0 (answer file) output })

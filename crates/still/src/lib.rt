@@ -1,0 +1,101 @@
+// The whole job of one still picture (document 01, "Frames from a file"): from the bytes of a file to the bytes to write.
+ghost use mathlib.Core.Path.{_≡_};
+ghost use Prim.Native.Nat.{_+_, _≤_};
+ghost use lib.ListN.{length, drop};
+ghost use Rattle.refusal.specs.Refusal.{firstOf};
+ghost use Rattle.text.specs.Text.{Writes};
+ghost use Rattle.netpbm.specs.Header.{Fitting};
+ghost use Rattle.still.specs.Inner.{Colourable, Writable};
+ghost use Rattle.still.specs.Still.{balanced, picture, refusalLine, sampleChecks, pictureAnswer, outputLimit, outcome};
+use netpbm::Header;
+use netpbm::Reading;
+use shot::Shot;
+
+// One byte more than the largest legal file: so many bytes of a file are enough.
+pub const INPUT_LIMIT: usize = 49217;
+
+// An output of so many bytes has room for every answer.
+pub const OUTPUT_LIMIT: usize = 49171;
+
+// The curve choice and the method for files.
+const CUBE: u32 = 1;
+
+const YANG_LEE: u32 = 2;
+
+// Writes a refusal at the start of the output, and hands back how many bytes it has.
+fn write_refusal(number: u32, output: &mut [u8]) -> usize
+    requires { ⌜ length (refusalLine number) ≤ length (now output) ⌝ }
+    ensures { λ r. ⌜ Writes 0 (refusalLine number) (now (output .entry)) r (now (output .exit)) ⌝ }
+{
+    let end = text::write_text(b"refused ", output, 0);
+    let end = text::write_decimal(number as u64, output, end);
+    text::write_text(b"\n", output, end)
+}
+
+// File 15, 16: 0, or the number of the first that applies.
+fn samples_number(due: usize, there: usize) -> u32
+    ensures { λ r. ⌜ r ≡ firstOf (sampleChecks due there) ⌝ }
+{
+    if there < due {
+        return 15;
+    }
+    if due < there {
+        return 16;
+    }
+    0
+}
+
+// Colours the samples of a picture by its own curve.
+fn balance_samples(source: &[u8], destination: &mut [u8])
+    requires { ⌜ Colourable (length (now source)) (length (now destination)) ⌝ }
+    ensures { λ _. ⌜ now (destination .exit) ≡ balanced (now (source .entry)) ⌝ }
+{
+    let measured = Shot::open().measure(source);
+    let shot = measured.shot;
+    let fixed = shot.fix(CUBE);
+    let shot = fixed.shot;
+    shot.colour(YANG_LEE, source, destination);
+}
+
+// Writes a picture at the start of the output: a header, and the samples coloured. Hands back how many bytes it has.
+fn write_picture(width: u32, height: u32, samples: &[u8], output: &mut [u8]) -> usize
+    requires { ⌜ Writable width height (length (now samples)) (length (now output)) ⌝ }
+    ensures { λ r. ⌜ Writes 0 (picture width height (now (samples .entry))) (now (output .entry)) r (now (output .exit)) ⌝ }
+{
+    let first = netpbm::write_header(width, height, output);
+    let end = first + samples.len();
+    balance_samples(samples, &mut output[first..end]);
+    end
+}
+
+// The answer for a header that is accepted.
+fn balance_picture(header: Header, file: &[u8], output: &mut [u8]) -> usize
+    requires { ⌜ Fitting header (length (now file)) × (outputLimit ≤ length (now output)) ⌝ }
+    ensures { λ r. ⌜ Writes 0 (pictureAnswer header (drop (header .samples) (now (file .entry)))) (now (output .entry)) r (now (output .exit)) ⌝ }
+{
+    let start = header.samples;
+    let samples = &file[start..];
+    let due = 3 * netpbm::area(header.width, header.height) as usize;
+    let number = samples_number(due, samples.len());
+    if number != 0 {
+        return write_refusal(number, output);
+    }
+    write_picture(header.width, header.height, samples, output)
+}
+
+// The whole job: the answer to a file, at the start of the output. Hands back how many of its bytes are to be written; an output shorter
+// than `OUTPUT_LIMIT` stays as it was, and none is.
+pub fn balance_file(file: &[u8], output: &mut [u8]) -> usize
+    ensures { λ r. ⌜ outcome (now (file .entry)) (now (output .entry)) ≡ record { size = r; output = now (output .exit) } ⌝ }
+{
+    if output.len() < OUTPUT_LIMIT {
+        return 0;
+    }
+    let reading = netpbm::read_header(file);
+    match reading {
+        Reading::Accepted(header) => balance_picture(header, file, output),
+        Reading::Malformed | Reading::OtherLargest | Reading::OtherSize => {
+            write_refusal(netpbm::number_of(reading), output)
+        }
+    }
+}

@@ -1,0 +1,54 @@
+-- `balance::main` is safe: what it writes lies within the output.
+use mathlib.Core.Path.{sym}
+use borrow.Author.Needs.{needs}
+use lib.Seq.{length-take-le}
+use Rattle.still.proofs.Limits.{size-within}
+use Rattle.balance.proofs.main.Statement.{statement}
+use Rattle.balance.proofs.main.Tie as tie
+
+slice-aggregate-read-full : tie.Need-slice-aggregate-read-full
+slice-aggregate-read-full c = search needs
+
+read-full-requires : tie.Need-read-full-requires
+read-full-requires c κs = search needs
+
+array-share-prefix-file : tie.Need-array-share-prefix-file
+array-share-prefix-file c = search needs
+
+slice-aggregate-balance-file : tie.Need-slice-aggregate-balance-file
+slice-aggregate-balance-file c = search needs
+
+slice-aggregate-balance-file-2 : tie.Need-slice-aggregate-balance-file-2
+slice-aggregate-balance-file-2 c = search needs
+
+balance-file-requires : tie.Need-balance-file-requires
+balance-file-requires c κs = search needs
+
+array-share-prefix-output : tie.Need-array-share-prefix-output
+array-share-prefix-output c = size-within _ _ _ _ (c .before .balance-file .ensures)
+
+slice-aggregate-write-all : tie.Need-slice-aggregate-write-all
+slice-aggregate-write-all c =
+    let done = c .before .before in
+    sym (length-take-le (done .balance-file .result) (done .balance-file .last .1 .0) (size-within _ _ _ _ (done .balance-file .ensures)))
+
+write-all-requires : tie.Need-write-all-requires
+write-all-requires c κs = search needs
+
+returns : tie.Need-returns
+returns c = search needs
+
+pub main-spec : {M : Type 1} → statement M
+main-spec =
+    tie.close
+    (tie.spec
+    slice-aggregate-read-full
+    read-full-requires
+    array-share-prefix-file
+    slice-aggregate-balance-file
+    slice-aggregate-balance-file-2
+    balance-file-requires
+    array-share-prefix-output
+    slice-aggregate-write-all
+    write-all-requires
+    returns)

@@ -1,0 +1,12 @@
+// The program `balance` (document 01, "Frames from a file"): reads an image from standard input and writes the answer to standard output.
+// All that is decided is decided in `still`.
+use libc::STDIN_FILENO;
+use libc::STDOUT_FILENO;
+
+fn main() {
+    let mut file = [0u8; still::INPUT_LIMIT];
+    let mut output = [0u8; still::OUTPUT_LIMIT];
+    let read = io::read_full(STDIN_FILENO, &mut file);
+    let size = still::balance_file(&file[..read], &mut output);
+    io::write_all(STDOUT_FILENO, &output[..size]);
+}

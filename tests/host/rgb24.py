@@ -6,12 +6,14 @@ Prints the seed of its random frames, one line a group, and `rgb24: N cases, see
 """
 
 import os
+import pathlib
 import random
 import re
 import subprocess
 import sys
 import time
 
+sys.path.insert(0, str(pathlib.Path(__file__).resolve().parent.parent))
 from exact import balanced
 
 DEFAULT_SEED = 20170101

@@ -1,7 +1,9 @@
-"""Document 01 in plain integers, for small frames: what the filter's output is compared with.
+"""Document 01 in plain integers: what the output of the filter and of the program `balance` is compared with.
 
-Written from the document alone, and apart from exact.c, so that a slip in one of the two shows.
+Written from the document alone, and apart from host/exact.c, so that a slip in one of the two shows.
 """
+
+from itertools import accumulate
 
 
 def target(k):
@@ -35,9 +37,11 @@ def pixels_of(frame):
 
 def curve_of(frame, choice):
     """The tone curve of a frame taken as a whole shot."""
-    sums = [sum(pixel) for pixel in pixels_of(frame)]
-    at_most = [sum(1 for s in sums if s <= bound) for bound in range(766)]
-    entries = {h: entry(choice, len(sums), h) for h in set(at_most)}
+    counts = [0] * 766
+    for pixel in pixels_of(frame):
+        counts[sum(pixel)] += 1
+    at_most = list(accumulate(counts))
+    entries = {h: entry(choice, at_most[765], h) for h in set(at_most)}
     return [0] + [entries[h] for h in at_most[1:765]] + [765]
 
 

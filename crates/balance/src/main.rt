@@ -4,8 +4,8 @@ use libc::STDIN_FILENO;
 use libc::STDOUT_FILENO;
 
 fn main() {
-    let mut file = [0u8; still::INPUT_LIMIT];
-    let mut output = [0u8; still::OUTPUT_LIMIT];
+    let mut file = still::input_buffer();
+    let mut output = still::output_buffer();
     let read = io::read_full(STDIN_FILENO, &mut file);
     let size = still::balance_file(&file[..read], &mut output);
     io::write_all(STDOUT_FILENO, &output[..size]);

@@ -6,21 +6,36 @@ ghost use Rattle.refusal.specs.Refusal.{firstOf};
 ghost use Rattle.text.specs.Text.{Writes};
 ghost use Rattle.netpbm.specs.Header.{Fitting};
 ghost use Rattle.still.specs.Inner.{Colourable, Writable};
+ghost use Rattle.still.specs.Limits.{inputLimit};
 ghost use Rattle.still.specs.Still.{balanced, picture, refusalLine, sampleChecks, pictureAnswer, outputLimit, outcome};
 use netpbm::Header;
 use netpbm::Reading;
 use shot::Shot;
 
 // One byte more than the largest legal file: so many bytes of a file are enough.
-pub const INPUT_LIMIT: usize = 49217;
+const INPUT_LIMIT: usize = 49217;
 
 // An output of so many bytes has room for every answer.
-pub const OUTPUT_LIMIT: usize = 49171;
+const OUTPUT_LIMIT: usize = 49171;
 
 // The curve choice and the method for files.
 const CUBE: u32 = 1;
 
 const YANG_LEE: u32 = 2;
+
+// Room for the bytes of a file that are read.
+pub fn input_buffer() -> [u8; INPUT_LIMIT]
+    ensures { λ r. ⌜ length r ≡ inputLimit ⌝ }
+{
+    [0; INPUT_LIMIT]
+}
+
+// Room for every answer.
+pub fn output_buffer() -> [u8; OUTPUT_LIMIT]
+    ensures { λ r. ⌜ length r ≡ outputLimit ⌝ }
+{
+    [0; OUTPUT_LIMIT]
+}
 
 // Writes a refusal at the start of the output, and hands back how many bytes it has.
 fn write_refusal(number: u32, output: &mut [u8]) -> usize

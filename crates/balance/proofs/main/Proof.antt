@@ -6,6 +6,12 @@ use Rattle.still.proofs.Limits.{size-within}
 use Rattle.balance.proofs.main.Statement.{statement}
 use Rattle.balance.proofs.main.Tie as tie
 
+input-buffer-requires : tie.Need-input-buffer-requires
+input-buffer-requires c κs = search needs
+
+output-buffer-requires : tie.Need-output-buffer-requires
+output-buffer-requires c κs = search needs
+
 slice-aggregate-read-full : tie.Need-slice-aggregate-read-full
 slice-aggregate-read-full c = search needs
 
@@ -42,6 +48,8 @@ pub main-spec : {M : Type 1} → statement M
 main-spec =
     tie.close
     (tie.spec
+    input-buffer-requires
+    output-buffer-requires
     slice-aggregate-read-full
     read-full-requires
     array-share-prefix-file

@@ -1,14 +1,14 @@
 -- The letters P6 at the start.
 use mathlib.Core.Path.{_≡_, ap₂}
-use mathlib.Core.Bool.{true, false}
+use mathlib.Core.Bool.{true}
 use mathlib.Core.List.{List, [], _∷_}
-use Prim.Native.Nat.{ℕ, _≤_, _<_}
+use Prim.Native.Nat.{ℕ, _≤_}
 use native.Mathlib.Omega.{arith}
 use borrow.Author.Tests.{eqb-true}
 use lib.Dec.{eqb}
 use lib.ListN.{length, drop, List·getD-eq-default}
 use Rattle.tables.specs.Table.{at}
-use Rattle.tables.proofs.Cases.{both, cannot, either}
+use Rattle.tables.proofs.Cases.{both, either}
 use Rattle.netpbm.specs.Header.{hasLetters}
 
 -- they are two bytes
@@ -17,9 +17,6 @@ letters-within bytes h =
     either (length bytes) 1
     (λ short. absurd (omega (arith, List·getD-eq-default bytes 0 short, eqb-true (at bytes 1) 54 (both (eqb (at bytes 0) 80) (eqb (at bytes 1) 54) h .1))))
     (λ long. long)
-
-pub short-no-letters : (bytes : List ℕ) → length bytes < 2 → hasLetters bytes ≡ false
-short-no-letters bytes short = cannot (hasLetters bytes) (λ h. omega (arith, letters-within bytes h))
 
 -- what follows them
 pub letters-split : (bytes : List ℕ) → hasLetters bytes ≡ true → bytes ≡ 80 ∷ 54 ∷ drop 2 bytes

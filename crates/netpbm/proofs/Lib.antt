@@ -6,3 +6,4 @@ pub mod FieldTexts
 pub mod Written
 pub mod Accepted
 pub mod Grammar
+pub mod Examples

@@ -62,6 +62,16 @@ fn is_space(b: u8) -> bool
     true
 }
 
+// The byte at a place. Past the end it is 0, which is no letter, no digit and no white space.
+fn byte_at(bytes: &[u8], place: usize) -> u8
+    ensures { λ r. ⌜ r ≡ at (now (bytes .entry)) place ⌝ }
+{
+    if bytes.len() <= place {
+        return 0;
+    }
+    bytes[place]
+}
+
 // Whether a byte is of the class.
 fn is_of(class: Class, b: u8) -> bool
     ensures { λ r. ⌜ r ≡ isOf class b ⌝ }
@@ -132,27 +142,14 @@ fn judge(width: u32, height: u32, largest: u32, samples: usize) -> Reading
     })
 }
 
-// Whether the file begins with the letters P6.
+// Whether the bytes begin with the letters P6.
 fn has_letters(bytes: &[u8]) -> bool
     ensures { λ r. ⌜ r ≡ hasLetters (now (bytes .entry)) ⌝ }
 {
-    if bytes.len() < 2 {
+    if byte_at(bytes, 0) != b'P' {
         return false;
     }
-    if bytes[0] != b'P' {
-        return false;
-    }
-    bytes[1] == b'6'
-}
-
-// Whether a white-space byte stands at the place.
-fn space_at(bytes: &[u8], place: usize) -> bool
-    ensures { λ r. ⌜ r ≡ isSpace (at (now (bytes .entry)) place) ⌝ }
-{
-    if bytes.len() <= place {
-        return false;
-    }
-    is_space(bytes[place])
+    byte_at(bytes, 1) == b'6'
 }
 
 // Reads a header that must end within these bytes.
@@ -171,7 +168,7 @@ fn read_within(bytes: &[u8]) -> Reading
     let Field::Number(largest, end) = read_field(bytes, end) else {
         return Reading::Malformed;
     };
-    if !space_at(bytes, end) {
+    if !is_space(byte_at(bytes, end)) {
         return Reading::Malformed;
     }
     judge(width, height, largest, end + 1)

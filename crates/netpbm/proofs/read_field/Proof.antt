@@ -63,6 +63,8 @@ read-decimal-requires c κs =
     (sym (scan-numeral _ _ _ _ (scanned .before .before .run-end .ensures) (scanned .run-end2 .ensures)))
     (omega (arith, length-numeral (start .bytes .now) (start .place), sizes checked), numeral-digits _ _)
 
+-- what the digits give is the field's number,
+-- and where they end the field does
 returns-4 : tie.Need-returns-4
 returns-4 c =
     let checked = c .before .before in

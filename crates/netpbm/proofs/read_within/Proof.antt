@@ -1,5 +1,5 @@
 -- `netpbm::read_within` meets its contract.
-use mathlib.Core.Path.{_≡_, refl, sym, _∙_}
+use mathlib.Core.Path.{_≡_, refl, sym, ap, _∙_}
 use mathlib.Core.Bool.{true, cond}
 use Prim.Native.Nat.{_+_}
 use native.Mathlib.Omega.{arith}
@@ -108,23 +108,27 @@ numbers-are c =
     )
     refl
 
-space-at-requires : tie.Need-space-at-requires
-space-at-requires c κs = search needs
+byte-at-requires : tie.Need-byte-at-requires
+byte-at-requires c κs = search needs
+
+is-space-requires : tie.Need-is-space-requires
+is-space-requires c κs = search needs
+
+-- whether that byte is white space
+last-is : (c : tie.After-is-space) → let largests = c .before .before .before in
+    let start = largests .before .before .before .before .before .before .before .before .before .before .before .before .before .before in
+    c .is-space .result ≡ isSpace (at (start .args .bytes .now) (largests .largest .given .0 .1 .0))
+last-is c = c .is-space .ensures ∙ ap isSpace (c .before .byte-at .ensures)
 
 returns-5 : tie.Need-returns-5
-returns-5 c =
-    rw (numbers-are (c .before .before .before), sym (c .before .space-at .ensures) ∙ not-true _ (c .if2 .taken)) refl
-
-last-is-space : (c : tie.Else2) → let largests = c .before .before .before in
-    let widths = largests .before .before .before .before .before .before .before .before in
-    isSpace (at (widths .before .before .before .before .before .before .args .bytes .now) (largests .largest .given .0 .1 .0)) ≡ true
-last-is-space c = sym (c .before .space-at .ensures) ∙ not-false _ (c .if2 .left)
+returns-5 c = rw (numbers-are (c .before .before .before .before), sym (last-is (c .before)) ∙ not-true _ (c .if2 .taken)) refl
 
 add-judge : tie.Need-add-judge
 add-judge c =
-    let largests = c .before .before .before in
+    let largests = c .before .before .before .before in
     let start = largests .before .before .before .before .before .before .before .before .before .before .before .before .before .before in
-    record { fits = omega (arith, space-within (start .args .bytes .now) (largests .largest .given .0 .1 .0) (last-is-space c)) }
+    let space = sym (last-is (c .before)) ∙ not-false _ (c .if2 .left) in
+    record { fits = omega (arith, space-within (start .args .bytes .now) (largests .largest .given .0 .1 .0) space) }
 
 judge-requires : tie.Need-judge-requires
 judge-requires c κs = search needs
@@ -132,7 +136,7 @@ judge-requires c κs = search needs
 returns-6 : tie.Need-returns-6
 returns-6 c =
     let spaced = c .before in
-    rw (numbers-are (spaced .before .before .before), last-is-space spaced) (c .judge .ensures)
+    rw (numbers-are (spaced .before .before .before .before), sym (last-is (spaced .before)) ∙ not-false _ (spaced .if2 .left)) (c .judge .ensures)
 
 pub read-within-spec : {M : Type 1} → statement M
 read-within-spec =
@@ -152,7 +156,8 @@ read-within-spec =
     enum-known-largest
     enum-told-3
     returns-4
-    space-at-requires
+    byte-at-requires
+    is-space-requires
     returns-5
     add-judge
     judge-requires

@@ -1,0 +1,9 @@
+-- The examples, by computing.
+use mathlib.Core.Path.{refl}
+use Rattle.text.specs.Decimal.{valueAfter}
+use Rattle.netpbm.specs.Header.{runLength, fieldAt, headerIn}
+use Rattle.netpbm.specs.Examples.{examples, ExamplesHold}
+
+pub examples-hold : ExamplesHold
+unfolding examples valueAfter runLength fieldAt headerIn
+examples-hold = refl

@@ -3,3 +3,4 @@ pub mod Samples
 pub mod Answers
 pub mod Limits
 pub mod Agreement
+pub mod Examples

@@ -1,0 +1,18 @@
+-- The examples, by computing.
+use mathlib.Core.Path.{refl}
+use Rattle.rounding.specs.Near.{near}
+use Rattle.tables.specs.Table.{tabulate}
+use Rattle.targets.specs.Cube.{G}
+use Rattle.text.specs.Decimal.{valueAfter, decimalWithin, decimal}
+use Rattle.pixel.specs.Move.{naikMurthy, yangLee, movedSample, moved}
+use Rattle.curve.specs.Curve.{shareOf, wholeOf, cubeEntry, withEnds, entry, toneCurve}
+use Rattle.curve.specs.Nearest.{nearer, nearestPlace}
+use Rattle.colouring.specs.Colouring.{colouredStrip}
+use Rattle.shot.specs.Book.{curveOf}
+use Rattle.netpbm.specs.Header.{runLength, fieldAt, headerIn, headerText}
+use Rattle.still.specs.Still.{balanced, picture, refusalLine, pictureAnswer, answer}
+use Rattle.still.specs.Examples.{examples, ExamplesHold}
+
+pub examples-hold : ExamplesHold
+unfolding examples near tabulate G valueAfter decimalWithin decimal naikMurthy yangLee movedSample moved shareOf wholeOf cubeEntry withEnds entry toneCurve nearer nearestPlace colouredStrip curveOf runLength fieldAt headerIn headerText balanced picture refusalLine pictureAnswer answer
+examples-hold = refl

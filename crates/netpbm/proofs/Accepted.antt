@@ -43,15 +43,15 @@ module _ (P : Reading → Type 0) (malformed : P Malformed) where
       after-number (fieldAt bytes end₂) _ (λ largest end₃.
       or-malformed (isSpace (at bytes end₃)) _ (each width height largest end₃)))))
 
-judged-fits : (file width height largest samples : ℕ) → samples ≤ file → samples ≤ headerLimit → Fits file (judged width height largest samples)
-judged-fits file width height largest samples begins short =
+judged-fits : (file width height largest start : ℕ) → start ≤ file → start ≤ headerLimit → Fits file (judged width height largest start)
+judged-fits file width height largest start begins short =
     go (not (eqb largest 255)) (eqb area 0) (ltb areaLimit area) (eqb-false area 0) (ltb-false areaLimit area)
   where
     area : ℕ
     area = width * height
 
     go : (other none over : Bool) → (none ≡ false → area ≡ 0 → ⊥) → (over ≡ false → area ≤ areaLimit)
-        → Fits file (cond other OtherLargest (cond (none || over) OtherSize (Accepted (record { width = width; height = height; samples = samples }))))
+        → Fits file (cond other OtherLargest (cond (none || over) OtherSize (Accepted (record { width = width; height = height; start = start }))))
     go true none over some most = tt
     go false true over some most = tt
     go false false true some most = tt

@@ -165,9 +165,9 @@ pub reading-is-the-grammar : ReadingIsTheGrammar
 reading-is-the-grammar = record { complete = complete; sound = sound }
 
 -- a picture of an allowed size is accepted
-accepted : (width height samples : ℕ) → 0 < width * height → width * height ≤ areaLimit
-    → judged width height 255 samples ≡ Accepted (record { width = width; height = height; samples = samples })
-accepted width height samples some most = rw (ne-eqb (width * height) 0 (λ e. omega arith), le-ltb areaLimit (width * height) most)
+accepted : (width height start : ℕ) → 0 < width * height → width * height ≤ areaLimit
+    → judged width height 255 start ≡ Accepted (record { width = width; height = height; start = start })
+accepted width height start some most = rw (ne-eqb (width * height) 0 (λ e. omega arith), le-ltb areaLimit (width * height) most)
 
 pub written-is-read : WrittenIsRead
 written-is-read width height some most samples =

@@ -6,8 +6,8 @@ use native.Mathlib.Omega.{arith}
 use lib.ListN.{length, length-append}
 use Rattle.text.specs.Decimal.{decimalWithin, decimal}
 use Rattle.text.proofs.Decimal.{decimal-means}
-use Rattle.netpbm.specs.Header.{areaLimit, headerText}
-use Rattle.netpbm.specs.Grammar.{Parts, textOf, Numeral, IsHeader}
+use Rattle.netpbm.specs.Header.{areaLimit, headerText, writtenLimit}
+use Rattle.netpbm.specs.Grammar.{Parts, textOf, Numeral, IsHeader, WrittenHeadersFit}
 use Rattle.netpbm.proofs.FieldTexts.{one-space}
 
 pub header-size : (width height : ℕ) → length (headerText width height) ≡ length (decimal width) + length (decimal height) + 9
@@ -29,7 +29,7 @@ module _ (width height : ℕ) (some : 0 < width * height) (most : width * height
   height-fits = omega (arith, factor-at-most height width (omega arith))
 
   -- so its header is short
-  pub header-short : length (headerText width height) ≤ 19
+  header-short : length (headerText width height) ≤ writtenLimit
   header-short =
       omega (
         arith,
@@ -37,6 +37,9 @@ module _ (width height : ℕ) (some : 0 < width * height) (most : width * height
         decimal-means .most width 5 (omega arith) (omega arith) width-fits,
         decimal-means .most height 5 (omega arith) (omega arith) height-fits,
       )
+
+pub written-headers-fit : WrittenHeadersFit
+written-headers-fit = header-short
 
 -- its parts
 abbrev pub written : ℕ → ℕ → Parts

@@ -17,9 +17,9 @@ infix 40 _reads_
 abbrev pub _reads_ : List ℕ → Reading → Example
 file reads reading = record { file = file; reading = reading }
 
--- A picture of this width and height, whose samples begin at the place.
+-- A picture of this width and height, whose samples start at the place.
 abbrev pub sized : ℕ → ℕ → ℕ → Reading
-sized width height samples = Accepted (record { width = width; height = height; samples = samples })
+sized width height start = Accepted (record { width = width; height = height; start = start })
 
 unfoldable pub examples : List Example
 examples =

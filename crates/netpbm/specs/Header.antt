@@ -9,8 +9,6 @@ use lib.ListN.{length, take, drop}
 use Rattle.tables.specs.Table.{at}
 use Rattle.text.specs.Decimal.{isDigit, value, decimal}
 use Rattle.text.specs.Text.{ascii}
-use Rattle.netpbm.specs.declared.Class.{Class}
-use Rattle.netpbm.specs.declared.Class.the-variants.{Space, Digit}
 use Rattle.netpbm.specs.declared.Field.{Field}
 use Rattle.netpbm.specs.declared.Field.the-variants.{Number, NoNumber}
 use Rattle.netpbm.specs.declared.Header.{Header}
@@ -28,11 +26,6 @@ areaLimit = 16384
 -- "space, tab, LF, VT, FF, CR"
 abbrev pub isSpace : ℕ → Bool
 isSpace b = eqb b 32 || eqb b 9 || eqb b 10 || eqb b 11 || eqb b 12 || eqb b 13
-
--- Whether a byte is of a class: white space, or a decimal digit.
-abbrev pub isOf : Class → ℕ → Bool
-isOf Space b = isSpace b
-isOf Digit b = isDigit b
 
 -- How many bytes pass the test before the first that does not.
 unfoldable pub runLength : (ℕ → Bool) → List ℕ → ℕ
@@ -53,13 +46,13 @@ abbrev pub afterNumber : Field → (ℕ → ℕ → Reading) → Reading
 afterNumber (Number n end) next = next n end
 afterNumber NoNumber next = Malformed
 
--- The answer for a header of the right form, by its three numbers and the place where the samples begin. 13: the largest sample value is
+-- The answer for a header of the right form, by its three numbers and the place where the samples start. 13: the largest sample value is
 -- not 255. 14: width times height is 0 or above 16,384.
 abbrev pub judged : ℕ → ℕ → ℕ → ℕ → Reading
-judged width height largest samples =
+judged width height largest start =
     cond (not (eqb largest 255)) OtherLargest
     (cond (eqb (width * height) 0 || ltb areaLimit (width * height)) OtherSize
-    (Accepted (record { width = width; height = height; samples = samples })))
+    (Accepted (record { width = width; height = height; start = start })))
 
 -- "the letters P6". (Past the end `at` gives 0, which is no letter, and no white space either.)
 abbrev pub hasLetters : List ℕ → Bool
@@ -92,11 +85,15 @@ unfoldable pub headerText : ℕ → ℕ → List ℕ
 headerText width height =
     ascii "P6\n" ++ decimal width ++ ascii " " ++ decimal height ++ ascii "\n255\n"
 
--- What an accepted header keeps, in a file of so many bytes: its samples begin within the file and right after a header of legal size, and
+-- The most bytes that it has: nine, and five digits for each side.
+abbrev pub writtenLimit : ℕ
+writtenLimit = 19
+
+-- What an accepted header keeps, in a file of so many bytes: its samples start within the file and right after a header of legal size, and
 -- "width times height is 1 to 16,384".
 pub record Fitting (header : Header) (file : ℕ) : Type 0 where
-  pub begins : header .samples ≤ file
-  pub short : header .samples ≤ headerLimit
+  pub begins : header .start ≤ file
+  pub short : header .start ≤ headerLimit
   pub some : 0 < header .width * header .height
   pub most : header .width * header .height ≤ areaLimit
 

@@ -1,3 +1,4 @@
 pub mod Header
+pub mod Inner
 pub mod Grammar
 pub mod Examples

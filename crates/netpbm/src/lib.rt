@@ -4,7 +4,8 @@ ghost use Prim.Native.Nat.{_+_, _*_, _≤_, _<_};
 ghost use lib.ListN.{length, drop};
 ghost use Rattle.tables.specs.Table.{at};
 ghost use Rattle.text.specs.Text.{Writes};
-ghost use Rattle.netpbm.specs.Header.{isSpace, isOf, runLength, fieldAt, judged, hasLetters, headerIn, headerOf, numberOf, headerText};
+ghost use Rattle.netpbm.specs.Inner.{isOf};
+ghost use Rattle.netpbm.specs.Header.{isSpace, runLength, fieldAt, judged, hasLetters, headerIn, headerOf, numberOf, headerText};
 
 // A header has at most so many bytes.
 pub const HEADER_LIMIT: usize = 64;
@@ -12,14 +13,17 @@ pub const HEADER_LIMIT: usize = 64;
 // Width times height is at most so much.
 pub const AREA_LIMIT: u64 = 16384;
 
+// A written header has at most so many bytes.
+pub const WRITTEN_LIMIT: usize = 19;
+
 // A number of a header has at most so many digits.
 const DIGIT_LIMIT: usize = 5;
 
-// What a header says: the picture's width and height, and where in the file its samples begin.
+// What a header says: the picture's width and height, and where in the file its samples start.
 pub struct Header {
     pub width: u32,
     pub height: u32,
-    pub samples: usize,
+    pub start: usize,
 }
 
 // The answer to reading one.
@@ -122,8 +126,8 @@ pub fn area(width: u32, height: u32) -> u64
 }
 
 // The answer for a header of the right form.
-fn judge(width: u32, height: u32, largest: u32, samples: usize) -> Reading
-    ensures { λ r. ⌜ r ≡ judged width height largest samples ⌝ }
+fn judge(width: u32, height: u32, largest: u32, start: usize) -> Reading
+    ensures { λ r. ⌜ r ≡ judged width height largest start ⌝ }
 {
     if largest != 255 {
         return Reading::OtherLargest;
@@ -138,7 +142,7 @@ fn judge(width: u32, height: u32, largest: u32, samples: usize) -> Reading
     Reading::Accepted(Header {
         width,
         height,
-        samples,
+        start,
     })
 }
 

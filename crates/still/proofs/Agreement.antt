@@ -52,7 +52,7 @@ module _ (file : List ℕ) (legal : Legal file) where
   module _ (bytes : Bytes file) (destination : List ℕ) (same : length destination ≡ samplesDue header) where
     -- its samples are bytes
     sample-bytes : Bytes samples
-    sample-bytes i = rw (getD-drop (header .samples) file i 0) (bytes _)
+    sample-bytes i = rw (getD-drop (header .start) file i 0) (bytes _)
 
     abbrev request : ColourRequest
     request = record { method = fileMethod; source = samples; destination = destination }
@@ -90,7 +90,7 @@ module _ (file : List ℕ) (legal : Legal file) where
   written-header = record {
     width = legal .header .width;
     height = legal .header .height;
-    samples = length (headerText (legal .header .width) (legal .header .height));
+    start = length (headerText (legal .header .width) (legal .header .height));
   }
 
   answer-reads : headerOf (answer file) ≡ Accepted written-header
@@ -99,10 +99,10 @@ module _ (file : List ℕ) (legal : Legal file) where
       ap headerOf (answer-is file legal)
       ∙ written-is-read (legal .header .width) (legal .header .height) (fits file legal .some) (fits file legal .most) (balanced (samplesOf legal))
 
-  answer-exact : length (drop (written-header .samples) (answer file)) ≡ samplesDue written-header
+  answer-exact : length (drop (written-header .start) (answer file)) ≡ samplesDue written-header
   unfolding picture
   answer-exact =
-      ap (λ (l : List ℕ). length (drop (written-header .samples) l)) (answer-is file legal)
+      ap (λ (l : List ℕ). length (drop (written-header .start) l)) (answer-is file legal)
       ∙ ap length (drop-append-seam (headerText (legal .header .width) (legal .header .height)) (balanced (samplesOf legal)))
       ∙ balanced-length (samplesOf legal) (shot file legal .whole)
       ∙ legal .exact

@@ -27,12 +27,12 @@ refused-answer Malformed file other = refl
 refused-answer OtherLargest file other = refl
 refused-answer OtherSize file other = refl
 
--- where no check applies, there are exactly the samples due
-pub checks-passed : (due there : ℕ) → firstOf (sampleChecks due there) ≡ 0 → there ≡ due
-checks-passed due there e =
-    let (few, rest) = passed (ltb there due) 15 _ (omega arith) e in
-    let (many, _) = passed (ltb due there) 16 _ (omega arith) rest in
-    omega (arith, ltb-false there due few, ltb-false due there many)
+-- where no check applies, exactly the samples due are present
+pub checks-passed : (due present : ℕ) → firstOf (sampleChecks due present) ≡ 0 → present ≡ due
+checks-passed due present e =
+    let (few, rest) = passed (ltb present due) 15 _ (omega arith) e in
+    let (many, _) = passed (ltb due present) 16 _ (omega arith) rest in
+    omega (arith, ltb-false present due few, ltb-false due present many)
 
 module _ (header : Header) (samples : List ℕ) (number : ℕ) (is : number ≡ firstOf (sampleChecks (samplesDue header) (length samples))) where
   pub picture-answer : number ≡ 0 → pictureAnswer header samples ≡ picture (header .width) (header .height) samples

@@ -19,7 +19,7 @@ use Rattle.netpbm.specs.declared.Header.{Header}
 use Rattle.netpbm.specs.declared.Reading.{Reading}
 use Rattle.netpbm.specs.declared.Reading.the-variants.{Accepted, Malformed, OtherLargest, OtherSize}
 use Rattle.netpbm.proofs.Accepted.{accepted-headers-fit}
-use Rattle.netpbm.proofs.Written.{header-short}
+use Rattle.netpbm.proofs.Written.{written-headers-fit}
 use Rattle.still.specs.Limits.{inputLimit, FirstBytesAreEnough, AnswersFit}
 use Rattle.still.specs.Still.{balanced, picture, refusalLine, samplesDue, sampleChecks, pictureAnswer, answerTo, answer, outputLimit, Outcome, outcome}
 use Rattle.still.proofs.Answers.{checks-passed, samples-refused}
@@ -38,15 +38,15 @@ module _ (file : List ℕ) where
 
   -- an accepted header's picture is the same, or too long either way
   same-picture : (header : Header) → Fitting header (length file)
-      → pictureAnswer header (drop (header .samples) (take inputLimit file)) ≡ pictureAnswer header (drop (header .samples) file)
+      → pictureAnswer header (drop (header .start) (take inputLimit file)) ≡ pictureAnswer header (drop (header .start) file)
   same-picture header fits =
       either (length file) inputLimit
-      (λ few. ap (λ (l : List ℕ). pictureAnswer header (drop (header .samples) l)) (take-all inputLimit file few))
+      (λ few. ap (λ (l : List ℕ). pictureAnswer header (drop (header .start) l)) (take-all inputLimit file few))
       (λ many.
-      too-many header (drop (header .samples) (take inputLimit file))
-      (omega (arith, fits .short, fits .most, length-drop (header .samples) (take inputLimit file), length-take-le inputLimit file (le-of-lt many)))
-      ∙ sym (too-many header (drop (header .samples) file)
-      (omega (arith, fits .short, fits .most, length-drop (header .samples) file))))
+      too-many header (drop (header .start) (take inputLimit file))
+      (omega (arith, fits .short, fits .most, length-drop (header .start) (take inputLimit file), length-take-le inputLimit file (le-of-lt many)))
+      ∙ sym (too-many header (drop (header .start) file)
+      (omega (arith, fits .short, fits .most, length-drop (header .start) file))))
 
   same-answer : (reading : Reading) → headerOf file ≡ reading → answerTo reading (take inputLimit file) ≡ answerTo reading file
   same-answer (Accepted header) reads = same-picture header (accepted-headers-fit file header reads)
@@ -55,10 +55,10 @@ module _ (file : List ℕ) where
   same-answer OtherSize reads = refl
 
   -- an accepted header's picture fits, and so does every refusal
-  picture-fits : (header : Header) → Fitting header (length file) → length (pictureAnswer header (drop (header .samples) file)) ≤ outputLimit
+  picture-fits : (header : Header) → Fitting header (length file) → length (pictureAnswer header (drop (header .start) file)) ≤ outputLimit
   unfolding pictureAnswer picture
   picture-fits header fits =
-      let samples = drop (header .samples) file in
+      let samples = drop (header .start) file in
       let number = firstOf (sampleChecks (samplesDue header) (length samples)) in
       either-leaves number (picture (header .width) (header .height) samples) (refusalLine number) (λ (l : List ℕ). length l ≤ outputLimit)
       (λ accepted.
@@ -67,7 +67,7 @@ module _ (file : List ℕ) where
       omega (
         arith,
         length-append (headerText (header .width) (header .height)) (balanced samples),
-        header-short (header .width) (header .height) (fits .some) (fits .most),
+        written-headers-fit (header .width) (header .height) (fits .some) (fits .most),
         balanced-length samples (shot .whole),
         exact,
         fits .most,

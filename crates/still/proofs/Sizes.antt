@@ -29,8 +29,8 @@ reading-small Malformed = omega arith
 reading-small OtherLargest = omega arith
 reading-small OtherSize = omega arith
 
-pub samples-small : (number due there : ℕ) → number ≡ firstOf (sampleChecks due there) → number < 100
-samples-small number due there is = rw is (go (ltb there due) (ltb due there))
+pub samples-small : (number due present : ℕ) → number ≡ firstOf (sampleChecks due present) → number < 100
+samples-small number due present is = rw is (go (ltb present due) (ltb due present))
   where
     go : (few many : Bool) → cond few 15 (cond many 16 0) < 100
     go true many = omega arith

@@ -16,11 +16,11 @@ use Rattle.still.specs.Still.{fileChoice, fileMethod, samplesDue, answer
 pub record Legal (file : List ℕ) : Type 0 where
   pub header : Header
   pub reads : headerOf file ≡ Accepted header
-  pub exact : length (drop (header .samples) file) ≡ samplesDue header
+  pub exact : length (drop (header .start) file) ≡ samplesDue header
 
 -- Its samples.
 abbrev pub samplesOf : {file : List ℕ} → Legal file → List ℕ
-samplesOf {file} legal = drop (legal .header .samples) file
+samplesOf {file} legal = drop (legal .header .start) file
 
 -- The calls that a picture takes, into a destination that may hold anything: a new shot is measured by its samples, fixed, and used to
 -- colour them.

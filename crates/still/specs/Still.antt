@@ -1,7 +1,7 @@
 -- The whole job of one still picture (document 01, "Frames from a file"): from the bytes of a file to the bytes to write.
 use mathlib.Core.Bool.{cond}
 use mathlib.Core.List.{List, [], _∷_, _++_}
-use Prim.Native.Nat.{ℕ, _*_}
+use Prim.Native.Nat.{ℕ, _+_, _*_}
 use lib.Dec.{ltb, eqb}
 use lib.ListN.{length, drop}
 use Rattle.refusal.specs.Refusal.{Check, _refuses_, firstOf}
@@ -10,7 +10,7 @@ use Rattle.text.specs.Text.{ascii, writtenAt}
 use Rattle.pixel.specs.Methods.{methodOf}
 use Rattle.colouring.specs.Colouring.{colouredStrip}
 use Rattle.shot.specs.Book.{curveOf}
-use Rattle.netpbm.specs.Header.{headerOf, numberOf, headerText}
+use Rattle.netpbm.specs.Header.{areaLimit, headerOf, numberOf, headerText, writtenLimit}
 use Rattle.netpbm.specs.declared.Header.{Header}
 use Rattle.netpbm.specs.declared.Reading.{Reading}
 use Rattle.netpbm.specs.declared.Reading.the-variants.{Accepted, Malformed, OtherLargest, OtherSize}
@@ -39,10 +39,10 @@ refusalLine number = ascii "refused " ++ decimal number ++ ascii "\n"
 abbrev pub samplesDue : Header → ℕ
 samplesDue header = 3 * (header .width * header .height)
 
--- File 15, 16, by how many samples are due and how many bytes there are. 15: fewer samples than the header says. 16: bytes after the
+-- File 15, 16, by how many samples are due and how many bytes are present. 15: fewer samples than the header says. 16: bytes after the
 -- samples.
 abbrev pub sampleChecks : ℕ → ℕ → List Check
-sampleChecks due there = ltb there due refuses 15 ∷ ltb due there refuses 16 ∷ []
+sampleChecks due present = ltb present due refuses 15 ∷ ltb due present refuses 16 ∷ []
 
 -- What is written for a header that is accepted and the bytes after it: the picture, or the refusal.
 unfoldable pub pictureAnswer : Header → List ℕ → List ℕ
@@ -52,7 +52,7 @@ pictureAnswer header samples =
 
 -- What is written for a file, by what reading its header answers. File 12, 13, 14, 15, 16: the header's own refusals come first.
 abbrev pub answerTo : Reading → List ℕ → List ℕ
-answerTo (Accepted header) file = pictureAnswer header (drop (header .samples) file)
+answerTo (Accepted header) file = pictureAnswer header (drop (header .start) file)
 answerTo Malformed file = refusalLine (numberOf Malformed)
 answerTo OtherLargest file = refusalLine (numberOf OtherLargest)
 answerTo OtherSize file = refusalLine (numberOf OtherSize)
@@ -61,9 +61,9 @@ answerTo OtherSize file = refusalLine (numberOf OtherSize)
 unfoldable pub answer : List ℕ → List ℕ
 answer file = answerTo (headerOf file) file
 
--- An output of so many bytes has room for every answer (specs/Limits.antt).
+-- An output of so many bytes has room for every answer (specs/Limits.antt): a header, and three samples to a pixel.
 abbrev pub outputLimit : ℕ
-outputLimit = 49171
+outputLimit = writtenLimit + 3 * areaLimit
 
 -- What the job leaves: how many bytes are to be written, and what the output then holds.
 pub record Outcome : Type 0 where

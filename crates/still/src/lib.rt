@@ -13,10 +13,10 @@ use netpbm::Reading;
 use shot::Shot;
 
 // One byte more than the largest legal file: so many bytes of a file are enough.
-const INPUT_LIMIT: usize = 49217;
+const INPUT_LIMIT: usize = netpbm::HEADER_LIMIT + 3 * netpbm::AREA_LIMIT as usize + 1;
 
 // An output of so many bytes has room for every answer.
-const OUTPUT_LIMIT: usize = 49171;
+const OUTPUT_LIMIT: usize = netpbm::WRITTEN_LIMIT + 3 * netpbm::AREA_LIMIT as usize;
 
 // The curve choice and the method for files.
 const CUBE: u32 = 1;
@@ -48,13 +48,13 @@ fn write_refusal(number: u32, output: &mut [u8]) -> usize
 }
 
 // File 15, 16: 0, or the number of the first that applies.
-fn samples_number(due: usize, there: usize) -> u32
-    ensures { λ r. ⌜ r ≡ firstOf (sampleChecks due there) ⌝ }
+fn samples_number(due: usize, present: usize) -> u32
+    ensures { λ r. ⌜ r ≡ firstOf (sampleChecks due present) ⌝ }
 {
-    if there < due {
+    if present < due {
         return 15;
     }
-    if due < there {
+    if due < present {
         return 16;
     }
     0
@@ -86,9 +86,9 @@ fn write_picture(width: u32, height: u32, samples: &[u8], output: &mut [u8]) -> 
 // The answer for a header that is accepted.
 fn balance_picture(header: Header, file: &[u8], output: &mut [u8]) -> usize
     requires { ⌜ Fitting header (length (now file)) × (outputLimit ≤ length (now output)) ⌝ }
-    ensures { λ r. ⌜ Writes 0 (pictureAnswer header (drop (header .samples) (now (file .entry)))) (now (output .entry)) r (now (output .exit)) ⌝ }
+    ensures { λ r. ⌜ Writes 0 (pictureAnswer header (drop (header .start) (now (file .entry)))) (now (output .entry)) r (now (output .exit)) ⌝ }
 {
-    let start = header.samples;
+    let start = header.start;
     let samples = &file[start..];
     let due = 3 * netpbm::area(header.width, header.height) as usize;
     let number = samples_number(due, samples.len());

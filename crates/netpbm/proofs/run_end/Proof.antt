@@ -3,7 +3,7 @@ use mathlib.Core.Path.{refl, sym, _∙_}
 use borrow.Author.Tests.{not-true, not-false}
 use Prim.Native.Nat.{_-_}
 use lib.ListN.{length}
-use Rattle.netpbm.specs.Header.{isOf}
+use Rattle.netpbm.specs.Inner.{isOf}
 use Rattle.netpbm.proofs.Runs.{Running, running-more, running-stop, running-end}
 use borrow.Author.Needs.{needs}
 use Rattle.netpbm.proofs.run_end.Statement.{statement}

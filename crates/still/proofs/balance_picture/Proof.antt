@@ -35,19 +35,19 @@ samples-number-requires c κs = search needs
 -- the answer to the checks
 number-is : (c : tie.After-samples-number) → let start = c .before .before .before .before .before in
     let header = start .args .header in
-    c .samples-number .result ≡ firstOf (sampleChecks (samplesDue header) (length (drop (header .samples) (start .args .file .now))))
+    c .samples-number .result ≡ firstOf (sampleChecks (samplesDue header) (length (drop (header .start) (start .args .file .now))))
 number-is c =
     let start = c .before .before .before .before .before in
     c .samples-number .ensures
     ∙ ap₂ (λ (area : ℕ) (samples : List ℕ). firstOf (sampleChecks (3 * area) (length samples))) (c .before .area .ensures)
-    (part-from (start .args .header .samples) (start .args .file .now))
+    (part-from (start .args .header .start) (start .args .file .now))
 
 write-refusal-requires : tie.Need-write-refusal-requires
 write-refusal-requires c κs =
     let numbered = c .before .before in
     let start = c .before .before .before .before .before .before .before in
     let header = start .args .header in
-    let small = samples-small _ (samplesDue header) (length (drop (header .samples) (start .args .file .now))) (number-is numbered) in
+    let small = samples-small _ (samplesDue header) (length (drop (header .start) (start .args .file .now))) (number-is numbered) in
     omega (arith, refusal-short (numbered .samples-number .result) small, start .pre .1)
 
 same-length : tie.Need-same-length
@@ -67,7 +67,7 @@ write-picture-requires c κs =
     let start = c .before .before .before .before .before .before .before in
     let checked = checks-passed _ _ (sym (number-is (c .before .before)) ∙ c .before .if1 .left) in
     record {
-      exact = ap length (part-from (start .args .header .samples) (start .args .file .now)) ∙ checked;
+      exact = ap length (part-from (start .args .header .start) (start .args .file .now)) ∙ checked;
       some = start .pre .0 .some;
       most = start .pre .0 .most;
       room = start .pre .1;
@@ -83,7 +83,7 @@ returns-2 c =
     let start = numbered .before .before .before .before .before in
     let header = start .args .header in
     subst (λ (answer : List ℕ). Writes 0 answer (start .args .output .now) (writing .write-picture .result) (writing .write-picture .last .1 .1 .1 .0))
-    (ap (picture (header .width) (header .height)) (part-from (header .samples) (start .args .file .now))
+    (ap (picture (header .width) (header .height)) (part-from (header .start) (start .args .file .now))
     ∙ sym (picture-answer header _ _ (number-is numbered) (writing .before .before .if1 .left)))
     (writing .write-picture .ensures)
 

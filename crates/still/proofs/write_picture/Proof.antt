@@ -8,7 +8,8 @@ use borrow.Rule.Slice.PartMut.{putMid}
 use lib.ListN.{length}
 use Rattle.text.specs.Text.{Writes}
 use Rattle.text.proofs.Runs.{writes-length, writes-more, part-writes}
-use Rattle.netpbm.proofs.Written.{header-short}
+use Rattle.netpbm.specs.Header.{writtenLimit}
+use Rattle.netpbm.proofs.Written.{written-headers-fit}
 use Rattle.still.specs.Still.{picture}
 use Rattle.still.proofs.Samples.{legal-shot, balanced-length, part-length}
 use Rattle.still.proofs.write_picture.Statement.{statement}
@@ -17,7 +18,7 @@ use Rattle.still.proofs.write_picture.Tie as tie
 write-header-requires : tie.Need-write-header-requires
 write-header-requires c κs =
     let start = c .before .before .before in
-    omega (arith, header-short (start .args .width) (start .args .height) (start .pre .some) (start .pre .most), start .pre .room)
+    omega (arith, written-headers-fit (start .args .width) (start .args .height) (start .pre .some) (start .pre .most), start .pre .room)
 
 -- after the header there is room for the samples
 room : (c : tie.After-write-header)
@@ -25,8 +26,8 @@ room : (c : tie.After-write-header)
 room c =
     let start = c .before .before .before .before in
     let wrote = c .write-header .ensures in
-    let short = header-short (start .args .width) (start .args .height) (start .pre .some) (start .pre .most) in
-    let ends : c .write-header .result ≤ 19 = omega (arith, short, wrote .ends) in
+    let short = written-headers-fit (start .args .width) (start .args .height) (start .pre .some) (start .pre .most) in
+    let ends : c .write-header .result ≤ writtenLimit = omega (arith, short, wrote .ends) in
     omega (arith, ends, start .pre .exact, start .pre .most, start .pre .room, writes-length wrote (omega (arith, ends, start .pre .room)))
 
 add-end : tie.Need-add-end

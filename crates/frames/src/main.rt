@@ -1,5 +1,5 @@
-// The reference frames of document 01. The starred ones are proved: specs/Starred.antt. This program runs the others that can
-// be run so far and prints what the calls give; the file stdout beside src/ holds what that must be.
+// The reference frames of document 01. The starred ones are proved: specs/Starred.antt. This program runs the others and prints what
+// the calls give; the file stdout beside src/ holds what that must be. The one for `balance` is run by that program itself.
 ghost use mathlib.Core.Path.{_≡_};
 ghost use Prim.Native.Nat.{_+_, _-_, _≤_};
 ghost use Rattle.pixel.specs.Move.{intensity};

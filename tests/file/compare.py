@@ -191,6 +191,18 @@ def unreadable():
     os.close(place)
 
 
+def unwritable(file):
+    """A failed write is told on standard error."""
+    global inputs
+    for case, output in ("standard output is full", ">/dev/full"), ("standard output is closed", ">&-"):
+        inputs += 1
+        done = subprocess.run(
+            ["bash", "-c", f'exec "$0" {output}', START], input=file, stderr=subprocess.PIPE, timeout=LONGEST_RUN, check=False
+        )
+        if done.stderr != b"balance: the output could not be written\n":
+            fault(case, f"standard error: {shown(done.stderr)}")
+
+
 def streams(cases):
     before = inputs
     files = {case.name: case.file for case in cases}
@@ -200,6 +212,7 @@ def streams(cases):
     for name in "reference", "cut_after_16", "longest", "longest_and_1", "longest_and_100000":
         from_file(f"{name} from a file", files[name])
     unreadable()
+    unwritable(files["reference"])
     print(f"file: streams: {inputs - before} inputs")
 
 

@@ -4,6 +4,7 @@ pub mod Fields
 pub mod Letters
 pub mod FieldTexts
 pub mod Written
+pub mod Readings
 pub mod Accepted
 pub mod Grammar
 pub mod Examples

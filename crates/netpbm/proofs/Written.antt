@@ -34,8 +34,8 @@ module _ (width height : ℕ) (some : 0 < width * height) (most : width * height
       omega (
         arith,
         header-size width height,
-        decimal-means .most width 5 (omega arith) (omega arith) width-fits,
-        decimal-means .most height 5 (omega arith) (omega arith) height-fits,
+        decimal-means .most width 5 (omega arith) width-fits,
+        decimal-means .most height 5 (omega arith) height-fits,
       )
 
 pub written-headers-fit : WrittenHeadersFit
@@ -69,7 +69,7 @@ written-text width height =
 written-numeral : (n : ℕ) → n < 10 ^ 5 → Numeral (decimal n)
 written-numeral n less = record {
   some = decimal-means .some n;
-  most = decimal-means .most n 5 (omega arith) (omega arith) less;
+  most = decimal-means .most n 5 (omega arith) less;
   digits = decimal-means .digits n;
 }
 

@@ -28,6 +28,12 @@ examples =
     ∷ (ascii "P6 2 1 255 " reads sized 2 1 11)
     -- each kind of white space, and several in a row: space, tab, LF, VT, FF, CR
     ∷ (ascii "P6" ++ (32 ∷ 9 ∷ 10 ∷ []) ++ ascii "2" ++ (11 ∷ 12 ∷ []) ++ ascii "1" ++ (13 ∷ []) ++ ascii "255" ++ (12 ∷ []) reads sized 2 1 14)
+    -- bytes beside white space, and beside the digits
+    ∷ (ascii "P6" ++ (8 ∷ []) ++ ascii "2 1\n255\n" reads Malformed)
+    ∷ (ascii "P6\n2 1" ++ (14 ∷ []) ++ ascii "255\n" reads Malformed)
+    ∷ (ascii "P6\n2 1\n255" ++ (0 ∷ []) reads Malformed)
+    ∷ (ascii "P6\n/ 1\n255\n" reads Malformed)
+    ∷ (ascii "P6\n: 1\n255\n" reads Malformed)
     -- exactly one white-space byte at the end: after CR, LF is a sample
     ∷ (ascii "P6\n2 1\n255\r\n" reads sized 2 1 11)
     -- leading zeros; five digits, six digits

@@ -80,6 +80,13 @@ numberOf Malformed = 12
 numberOf OtherLargest = 13
 numberOf OtherSize = 14
 
+-- And document 01's values for each case: the width, the height, and where the samples start. A refused header has none: all are 0.
+abbrev pub valuesOf : Reading → Header
+valuesOf (Accepted header) = header
+valuesOf Malformed = record { width = 0; height = 0; start = 0 }
+valuesOf OtherLargest = record { width = 0; height = 0; start = 0 }
+valuesOf OtherSize = record { width = 0; height = 0; start = 0 }
+
 -- "The written header is P6, LF, width, one space, height, LF, 255, LF, without leading zeros."
 unfoldable pub headerText : ℕ → ℕ → List ℕ
 headerText width height =

@@ -5,7 +5,7 @@ ghost use lib.ListN.{length, drop};
 ghost use Rattle.tables.specs.Table.{at};
 ghost use Rattle.text.specs.Text.{Writes};
 ghost use Rattle.netpbm.specs.Inner.{isOf};
-ghost use Rattle.netpbm.specs.Header.{isSpace, runLength, fieldAt, judged, hasLetters, headerIn, headerOf, numberOf, headerText};
+ghost use Rattle.netpbm.specs.Header.{isSpace, runLength, fieldAt, judged, hasLetters, headerIn, headerOf, numberOf, valuesOf, headerText};
 
 // A header has at most so many bytes.
 pub const HEADER_LIMIT: usize = 64;
@@ -197,6 +197,20 @@ pub fn number_of(reading: Reading) -> u32
         Reading::Malformed => 12,
         Reading::OtherLargest => 13,
         Reading::OtherSize => 14,
+    }
+}
+
+// And its values: what the header says, or all 0 for one that is refused.
+pub fn values_of(reading: Reading) -> Header
+    ensures { λ r. ⌜ r ≡ valuesOf reading ⌝ }
+{
+    match reading {
+        Reading::Accepted(header) => header,
+        Reading::Malformed | Reading::OtherLargest | Reading::OtherSize => Header {
+            width: 0,
+            height: 0,
+            start: 0,
+        },
     }
 }
 

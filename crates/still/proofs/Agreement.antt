@@ -1,58 +1,40 @@
 -- A file beside a shot and beside another file.
-use mathlib.Core.Path.{_≡_, refl, sym, ap, ap₂, _∙_}
-use mathlib.Core.List.{List, [], _∷_, _++_, map, append-nil}
-use Prim.Native.Nat.{ℕ}
+use mathlib.Core.Path.{_≡_, refl, sym, ap, ap₂, subst, _∙_}
+use mathlib.Core.List.{List, [], _∷_, _++_, map, append-nil, List·Memᴰ·not-nil, List·Memᴰ·cases-cons}
+use mathlib.Core.Logic.{⊎-elim}
+use Prim.Native.Nat.{ℕ, _-_}
 use native.Mathlib.Omega.{arith}
-use borrow.Author.Tests.{le-ltb}
-use lib.ListN.{length, drop}
-use lib.Seq.{drop-append-seam, getD-drop}
+use lib.ListN.{length, length-append}
+use lib.Seq.{getD-drop}
+use Rattle.tables.specs.Table.{_among_}
 use Rattle.pixel.specs.Strip.{Bytes}
+use Rattle.shot.specs.Book.{Call, Call.measuring, Call.fixing, Call.colouring}
 use Rattle.shot.specs.Inner.{WholeShot}
-use Rattle.shot.specs.Run.{trace, number}
+use Rattle.shot.specs.Run.{trace, number, WellFormed}
 use Rattle.shot.specs.Shot.{opened, measured, fixedWith, ColourRequest, Outcome, coloured}
+use Rattle.shot.proofs.Accuracy.{accuracy}
 use Rattle.shot.proofs.OneStrip.{strip-accepted, fix-accepted, colour-accepted}
-use Rattle.netpbm.specs.Header.{headerOf, headerText, Fitting}
+use Rattle.netpbm.specs.Header.{headerOf, valuesOf, headerText}
 use Rattle.netpbm.specs.declared.Header.{Header}
-use Rattle.netpbm.specs.declared.Reading.{Reading}
 use Rattle.netpbm.specs.declared.Reading.the-variants.{Accepted}
-use Rattle.netpbm.proofs.Accepted.{accepted-headers-fit}
 use Rattle.netpbm.proofs.Grammar.{written-is-read}
-use Rattle.still.specs.Agreement.{Legal, samplesOf, callsOf, bytesLeft, FilesFollowShots, AnswersAreFiles}
-use Rattle.still.specs.Still.{fileChoice, fileMethod, balanced, picture, samplesDue, answerTo, answer}
-use Rattle.still.proofs.Answers.{picture-answer}
+use Rattle.still.specs.Agreement.{callsOf, bytesLeft, FollowsShot, FilesFollowShots, AnswersAreFiles}
+use Rattle.still.specs.Still.{fileChoice, fileMethod, balanced, picture, samplesDue, Legal, fileHeader, fileSamples, answer}
+use Rattle.still.proofs.Answers.{legal-fits, legal-exact, legal-answer, is-legal}
 use Rattle.still.proofs.Samples.{legal-shot, balanced-length}
 
 module _ (file : List ℕ) (legal : Legal file) where
-  abbrev header : Header
-  header = legal .header
-
   abbrev samples : List ℕ
-  samples = samplesOf legal
-
-  fits : Fitting header (length file)
-  fits = accepted-headers-fit file header (legal .reads)
+  samples = fileSamples file
 
   -- its samples make a whole shot
   shot : WholeShot (length samples) fileChoice
-  shot = legal-shot _ _ (legal .exact) (fits .some) (fits .most)
+  shot = legal-shot _ _ (legal-exact file legal) (legal-fits file legal .some) (legal-fits file legal .most)
 
-  -- and its answer is a picture
-  answer-is : answer file ≡ picture (header .width) (header .height) samples
-  unfolding answer
-  answer-is =
-      ap (λ (r : Reading). answerTo r file) (legal .reads)
-      ∙ picture-answer header samples 0
-      (rw (
-        le-ltb (length samples) (samplesDue header) (omega (arith, legal .exact)),
-        le-ltb (samplesDue header) (length samples) (omega (arith, legal .exact)),
-      )
-      refl)
-      refl
-
-  module _ (bytes : Bytes file) (destination : List ℕ) (same : length destination ≡ samplesDue header) where
+  module _ (bytes : Bytes file) (destination : List ℕ) (same : length destination ≡ length samples) where
     -- its samples are bytes
     sample-bytes : Bytes samples
-    sample-bytes i = rw (getD-drop (header .start) file i 0) (bytes _)
+    sample-bytes i = rw (getD-drop (fileHeader file .start) file i 0) (bytes _)
 
     abbrev request : ColourRequest
     request = record { method = fileMethod; source = samples; destination = destination }
@@ -64,7 +46,7 @@ module _ (file : List ℕ) (legal : Legal file) where
           bytes = balanced samples;
         }
     unfolding balanced
-    colouring-is = colour-accepted samples sample-bytes fileChoice shot request refl (shot .whole) (same ∙ sym (legal .exact))
+    colouring-is = colour-accepted samples sample-bytes fileChoice shot request refl (shot .whole) same
 
     calls-accepted : map number (trace (callsOf samples destination)) ≡ 0 ∷ 0 ∷ 0 ∷ []
     calls-accepted =
@@ -75,40 +57,61 @@ module _ (file : List ℕ) (legal : Legal file) where
     calls-write : bytesLeft (trace (callsOf samples destination)) ≡ balanced samples
     calls-write = append-nil _ ∙ ap (λ (o : Outcome). o .bytes) colouring-is
 
-pub files-follow-shots : FilesFollowShots
-unfolding picture
-files-follow-shots = record {
-  accepted = λ file bytes legal destination same. calls-accepted file legal bytes destination same;
-  written = λ file bytes legal destination same.
-      answer-is file legal
-      ∙ ap (λ (l : List ℕ). headerText (legal .header .width) (legal .header .height) ++ l) (sym (calls-write file legal bytes destination same));
-}
+    -- the calls bring bytes
+    well-formed : (c : Call) → c among callsOf samples destination → WellFormed c
+    well-formed c m =
+        ⊎-elim (λ (e : c ≡ measuring samples). subst WellFormed (sym e) sample-bytes)
+        (λ m. ⊎-elim (λ (e : c ≡ fixing fileChoice). subst WellFormed (sym e) tt)
+        (λ m. ⊎-elim (λ (e : c ≡ colouring request). subst WellFormed (sym e) sample-bytes)
+        (λ m. absurd (List·Memᴰ·not-nil m))
+        (List·Memᴰ·cases-cons m))
+        (List·Memᴰ·cases-cons m))
+        (List·Memᴰ·cases-cons m)
 
--- The answer to a legal file, read again.
-module _ (file : List ℕ) (legal : Legal file) where
+    follows-shot : FollowsShot file destination
+    unfolding picture
+    follows-shot = record {
+      accepted = calls-accepted;
+      written =
+          legal-answer file legal
+          ∙ ap (λ (l : List ℕ). headerText (fileHeader file .width) (fileHeader file .height) ++ l) (sym calls-write);
+      accurate = accuracy _ well-formed;
+    }
+
+  -- Its answer, read again.
   abbrev written-header : Header
   written-header = record {
-    width = legal .header .width;
-    height = legal .header .height;
-    start = length (headerText (legal .header .width) (legal .header .height));
+    width = fileHeader file .width;
+    height = fileHeader file .height;
+    start = length (headerText (fileHeader file .width) (fileHeader file .height));
   }
 
   answer-reads : headerOf (answer file) ≡ Accepted written-header
   unfolding picture
   answer-reads =
-      ap headerOf (answer-is file legal)
-      ∙ written-is-read (legal .header .width) (legal .header .height) (fits file legal .some) (fits file legal .most) (balanced (samplesOf legal))
+      ap headerOf (legal-answer file legal)
+      ∙ written-is-read _ _ (legal-fits file legal .some) (legal-fits file legal .most) (balanced samples)
 
-  answer-exact : length (drop (written-header .start) (answer file)) ≡ samplesDue written-header
+  answer-exact : length (answer file) - written-header .start ≡ samplesDue written-header
   unfolding picture
   answer-exact =
-      ap (λ (l : List ℕ). length (drop (written-header .start) l)) (answer-is file legal)
-      ∙ ap length (drop-append-seam (headerText (legal .header .width) (legal .header .height)) (balanced (samplesOf legal)))
-      ∙ balanced-length (samplesOf legal) (shot file legal .whole)
-      ∙ legal .exact
+      omega (
+        arith,
+        ap length (legal-answer file legal),
+        length-append (headerText (fileHeader file .width) (fileHeader file .height)) (balanced samples),
+        balanced-length samples (shot .whole),
+        legal-exact file legal,
+      )
 
-  abbrev answer-legal : Legal (answer file)
-  answer-legal = record { header = written-header; reads = answer-reads; exact = answer-exact }
+  answer-header : fileHeader (answer file) ≡ written-header
+  answer-header = ap valuesOf answer-reads
+
+pub files-follow-shots : FilesFollowShots
+files-follow-shots file bytes legal destination same = follows-shot file legal bytes destination same
 
 pub answers-are-files : AnswersAreFiles
-answers-are-files = record { legal = answer-legal; width = λ file l. refl; height = λ file l. refl }
+answers-are-files = record {
+  legal = λ file legal. is-legal (answer file) _ (answer-reads file legal) (answer-exact file legal);
+  width = λ file legal. ap (λ (h : Header). h .width) (answer-header file legal);
+  height = λ file legal. ap (λ (h : Header). h .height) (answer-header file legal);
+}

@@ -1,47 +1,96 @@
--- The answers, case by case.
-use mathlib.Core.Path.{_≡_, refl, sym, ap, ap₂, _∙_}
-use mathlib.Core.List.{List, [], _∷_}
-use Prim.Native.Nat.{ℕ, _≤_, _<_}
+-- The answer to a file, case by case.
+use mathlib.Core.Path.{_≡_, refl, sym, ap₂, _∙_}
+use mathlib.Core.Bool.{Bool, true, false, not, cond}
+use mathlib.Core.List.{List}
+use Prim.Native.Nat.{ℕ, _-_, _≤_, _<_, zero-le}
 use native.Mathlib.Nat.{zero-add}
 use native.Mathlib.Omega.{arith}
-use borrow.Author.Tests.{eq-eqb, ne-eqb, lt-ltb, le-ltb, ltb-false}
-use denote.Enum.Declared.{tagOf}
-use types.Run.{OneOf, miss}
-use lib.Dec.{ltb}
-use lib.ListN.{length}
+use borrow.Author.Tests.{eq-eqb, ne-eqb, eqb-true, eqb-false, lt-ltb, le-ltb, ltb-false}
+use lib.Dec.{ltb, eqb}
+use lib.ListN.{length, length-drop}
 use Rattle.refusal.specs.Refusal.{firstOf}
 use Rattle.refusal.proofs.Laws.{passed}
 use Rattle.text.specs.Text.{Writes}
-use Rattle.netpbm.specs.Header.{numberOf}
+use Rattle.netpbm.specs.Header.{headerOf, numberOf, valuesOf, Fitting}
 use Rattle.netpbm.specs.declared.Header.{Header}
 use Rattle.netpbm.specs.declared.Reading.{Reading}
 use Rattle.netpbm.specs.declared.Reading.the-variants.{Accepted, Malformed, OtherLargest, OtherSize}
-use Rattle.netpbm.proofs.Reading.{the-type}
-use Rattle.still.specs.Still.{picture, refusalLine, samplesDue, sampleChecks, pictureAnswer, answerTo, answer, outputLimit, outcome}
+use Rattle.netpbm.proofs.Accepted.{accepted-headers-fit}
+use Rattle.netpbm.proofs.Readings.{accepted-is}
+use Rattle.still.specs.Inner.{Readable}
+use Rattle.still.specs.Still.{picture, refusalLine, samplesDue, sampleChecks, fileChecks, fileNumber, Legal, fileHeader, fileSamples, answer, outputLimit, outcome}
 
--- a header that is not accepted is refused by its own number
-pub refused-answer : (reading : Reading) (file : List ℕ) → OneOf (1 ∷ 2 ∷ 3 ∷ []) (tagOf the-type reading)
-    → answerTo reading file ≡ refusalLine (numberOf reading)
-refused-answer (Accepted header) file other = absurd (miss (1 ∷ 2 ∷ 3 ∷ []) 0 tt other)
-refused-answer Malformed file other = refl
-refused-answer OtherLargest file other = refl
-refused-answer OtherSize file other = refl
+-- every header that was read keeps what the checks lean on
+pub file-readable : (file : List ℕ) → Readable (fileHeader file) (length file)
+file-readable file = go (headerOf file) refl
+  where
+    go : (reading : Reading) → headerOf file ≡ reading → Readable (valuesOf reading) (length file)
+    go (Accepted header) reads =
+        let fits = accepted-headers-fit file header reads in
+        record { starts = fits .begins; most = fits .most }
+    go Malformed reads = record { starts = zero-le; most = zero-le }
+    go OtherLargest reads = record { starts = zero-le; most = zero-le }
+    go OtherSize reads = record { starts = zero-le; most = zero-le }
 
--- where no check applies, exactly the samples due are present
-pub checks-passed : (due present : ℕ) → firstOf (sampleChecks due present) ≡ 0 → present ≡ due
+-- the number of a header that is accepted is that of its samples
+pub number-of-samples : (reading : Reading) (size : ℕ) → numberOf reading ≡ 0
+    → firstOf (fileChecks reading size) ≡ firstOf (sampleChecks (samplesDue (valuesOf reading)) (size - valuesOf reading .start))
+number-of-samples reading size e = rw (eq-eqb (numberOf reading) 0 e) refl
+
+pub number-of-header : (reading : Reading) (size : ℕ) → (numberOf reading ≡ 0 → ⊥) → firstOf (fileChecks reading size) ≡ numberOf reading
+number-of-header reading size refused = rw (ne-eqb (numberOf reading) 0 refused) refl
+
+-- where no check of the samples applies, exactly the samples due are present
+checks-passed : (due present : ℕ) → firstOf (sampleChecks due present) ≡ 0 → present ≡ due
 checks-passed due present e =
     let (few, rest) = passed (ltb present due) 15 _ (omega arith) e in
     let (many, _) = passed (ltb due present) 16 _ (omega arith) rest in
     omega (arith, ltb-false present due few, ltb-false due present many)
 
-module _ (header : Header) (samples : List ℕ) (number : ℕ) (is : number ≡ firstOf (sampleChecks (samplesDue header) (length samples))) where
-  pub picture-answer : number ≡ 0 → pictureAnswer header samples ≡ picture (header .width) (header .height) samples
-  unfolding pictureAnswer
-  picture-answer e = rw (eq-eqb _ _ (sym is ∙ e)) refl
+-- where no check of a file applies, the header's does not, and the samples' do not
+file-passed : (n rest : ℕ) → cond (not (eqb n 0)) n rest ≡ 0 → (n ≡ 0) × (rest ≡ 0)
+file-passed n rest e = go (eqb n 0) (eqb-true n 0) (eqb-false n 0) e
+  where
+    go : (t : Bool) → (t ≡ true → n ≡ 0) → (t ≡ false → n ≡ 0 → ⊥) → cond (not t) n rest ≡ 0 → (n ≡ 0) × (rest ≡ 0)
+    go true accepted refused e = (accepted refl, e)
+    go false accepted refused e = absurd (refused refl e)
 
-  pub samples-refused : (number ≡ 0 → ⊥) → pictureAnswer header samples ≡ refusalLine number
-  unfolding pictureAnswer
-  samples-refused refused = rw (ne-eqb _ _ (λ e. refused (is ∙ e))) (ap refusalLine (sym is))
+-- A legal file.
+module _ (file : List ℕ) (legal : Legal file) where
+  checks : (numberOf (headerOf file) ≡ 0) × (firstOf (sampleChecks (samplesDue (fileHeader file)) (length file - fileHeader file .start)) ≡ 0)
+  unfolding fileNumber
+  checks = file-passed (numberOf (headerOf file)) _ legal
+
+  -- its header is accepted
+  pub legal-reads : headerOf file ≡ Accepted (fileHeader file)
+  legal-reads = accepted-is (headerOf file) (checks .0)
+
+  pub legal-fits : Fitting (fileHeader file) (length file)
+  legal-fits = accepted-headers-fit file (fileHeader file) legal-reads
+
+  -- it has exactly the samples due
+  pub legal-exact : length (fileSamples file) ≡ samplesDue (fileHeader file)
+  legal-exact = length-drop (fileHeader file .start) file ∙ checks-passed (samplesDue (fileHeader file)) _ (checks .1)
+
+  -- and its answer is a picture
+  pub legal-answer : answer file ≡ picture (fileHeader file .width) (fileHeader file .height) (fileSamples file)
+  unfolding answer
+  legal-answer = rw (eq-eqb (fileNumber file) 0 legal) refl
+
+-- a header that is accepted, with exactly the samples due, makes a legal file
+pub is-legal : (file : List ℕ) (header : Header) → headerOf file ≡ Accepted header → length file - header .start ≡ samplesDue header → Legal file
+unfolding fileNumber
+is-legal file header reads exact =
+    rw (
+      reads,
+      le-ltb (length file - header .start) (samplesDue header) (omega (arith, exact)),
+      le-ltb (samplesDue header) (length file - header .start) (omega (arith, exact)),
+    )
+    refl
+
+pub refused-answer : (file : List ℕ) → (fileNumber file ≡ 0 → ⊥) → answer file ≡ refusalLine (fileNumber file)
+unfolding answer
+refused-answer file refused = rw (ne-eqb (fileNumber file) 0 refused) refl
 
 module _ (file output : List ℕ) where
   pub short-outcome : length output < outputLimit → outcome file output ≡ record { size = 0; output = output }
@@ -52,4 +101,5 @@ module _ (file output : List ℕ) where
       → outcome file output ≡ record { size = size; output = after }
   unfolding outcome
   answer-outcome size after fits wrote =
-      rw (le-ltb _ _ fits) (ap₂ (λ (n : ℕ) (o : List ℕ). record { size = n; output = o }) (sym (wrote .ends ∙ zero-add _)) (sym (wrote .holds)))
+      rw (le-ltb _ _ fits)
+      (ap₂ (λ (n : ℕ) (o : List ℕ). record { size = n; output = o }) (sym (wrote .ends ∙ zero-add _)) (sym (wrote .holds)))

@@ -10,9 +10,9 @@ use Rattle.curve.specs.Nearest.{nearer, nearestPlace}
 use Rattle.colouring.specs.Colouring.{colouredStrip}
 use Rattle.shot.specs.Book.{curveOf}
 use Rattle.netpbm.specs.Header.{runLength, fieldAt, headerIn, headerText}
-use Rattle.still.specs.Still.{balanced, picture, refusalLine, pictureAnswer, answer}
+use Rattle.still.specs.Still.{balanced, picture, refusalLine, fileNumber, answer}
 use Rattle.still.specs.Examples.{examples, ExamplesHold}
 
 pub examples-hold : ExamplesHold
-unfolding examples near tabulate G valueAfter decimalWithin decimal naikMurthy yangLee movedSample moved shareOf wholeOf cubeEntry withEnds entry toneCurve nearer nearestPlace colouredStrip curveOf runLength fieldAt headerIn headerText balanced picture refusalLine pictureAnswer answer
+unfolding examples near tabulate G valueAfter decimalWithin decimal naikMurthy yangLee movedSample moved shareOf wholeOf cubeEntry withEnds entry toneCurve nearer nearestPlace colouredStrip curveOf runLength fieldAt headerIn headerText balanced picture refusalLine fileNumber answer
 examples-hold = refl

@@ -2,92 +2,113 @@
 use mathlib.Core.Path.{_≡_, refl, sym, ap, subst, _∙_}
 use mathlib.Core.Bool.{Bool, true, false, cond}
 use mathlib.Core.List.{List}
-use Prim.Native.Nat.{ℕ, _*_, _≤_, _<_, zero-le}
+use Prim.Native.Nat.{ℕ, _+_, _-_, _*_, _≤_, _<_, zero-le}
 use native.Mathlib.Nat.{le-of-lt}
 use native.Mathlib.Omega.{arith}
 use borrow.Author.Tests.{lt-ltb, le-ltb, ltb-false}
 use lib.Dec.{ltb}
-use lib.ListN.{length, take, drop, length-append, length-drop}
+use lib.ListN.{length, take, length-append, length-drop}
 use lib.Seq.{take-all, take-take, length-take-le}
 use Rattle.refusal.specs.Refusal.{firstOf}
 use Rattle.refusal.proofs.Laws.{either-leaves}
 use Rattle.tables.proofs.Cases.{either}
 use Rattle.text.specs.Text.{writtenAt}
+use Rattle.text.specs.Decimal.{valueAfter}
 use Rattle.text.proofs.Runs.{length-written}
-use Rattle.netpbm.specs.Header.{headerLimit, headerIn, headerOf, headerText, Fitting}
-use Rattle.netpbm.specs.declared.Header.{Header}
+use Rattle.netpbm.specs.Header.{headerLimit, runLength, fieldAt, headerIn, headerOf, numberOf, headerText}
 use Rattle.netpbm.specs.declared.Reading.{Reading}
 use Rattle.netpbm.specs.declared.Reading.the-variants.{Accepted, Malformed, OtherLargest, OtherSize}
 use Rattle.netpbm.proofs.Accepted.{accepted-headers-fit}
 use Rattle.netpbm.proofs.Written.{written-headers-fit}
-use Rattle.still.specs.Limits.{inputLimit, FirstBytesAreEnough, AnswersFit}
-use Rattle.still.specs.Still.{balanced, picture, refusalLine, samplesDue, sampleChecks, pictureAnswer, answerTo, answer, outputLimit, Outcome, outcome}
-use Rattle.still.proofs.Answers.{checks-passed, samples-refused}
+use Rattle.still.specs.Limits.{inputLimit, largestFile, OneByteMore, FirstBytesAreEnough, AnswersFit}
+use Rattle.still.specs.Still.{balanced, picture, refusalLine, samplesDue, fileChecks, fileNumber, Legal, fileHeader, fileSamples, answer, outputLimit, Outcome, outcome}
+use Rattle.still.proofs.Answers.{legal-fits, legal-exact, is-legal, refused-answer}
 use Rattle.still.proofs.Samples.{legal-shot, balanced-length}
-use Rattle.still.proofs.Sizes.{refusal-short, samples-small}
+use Rattle.still.proofs.Sizes.{refusal-short, number-small}
 
--- too many bytes after the header are refused, however many they are
-too-many : (header : Header) (samples : List ℕ) → samplesDue header < length samples → pictureAnswer header samples ≡ refusalLine 16
-too-many header samples more =
-    samples-refused header samples 16 (rw (le-ltb _ _ (le-of-lt more), lt-ltb _ _ more) refl) (λ e. omega arith)
+-- a legal file is its header and its samples
+legal-size : (file : List ℕ) → Legal file → length file ≡ fileHeader file .start + samplesDue (fileHeader file)
+legal-size file legal =
+    omega (arith, legal-fits file legal .begins, legal-exact file legal, length-drop (fileHeader file .start) file)
+
+legal-within : (file : List ℕ) → Legal file → length file < inputLimit
+legal-within file legal = omega (arith, legal-size file legal, legal-fits file legal .short, legal-fits file legal .most)
+
+largest-size : length largestFile + 1 ≡ inputLimit
+unfolding largestFile
+largest-size = refl
+
+largest-reads : headerOf largestFile ≡ Accepted (record { width = 128; height = 128; start = 64 })
+unfolding largestFile valueAfter runLength fieldAt headerIn
+largest-reads = refl
+
+pub one-byte-more : OneByteMore
+one-byte-more = record {
+  within = legal-within;
+  legal = is-legal largestFile _ largest-reads (omega (arith, largest-size));
+  largest = largest-size;
+}
+
+-- the number for a file with more bytes than are read
+abbrev past : Reading → ℕ
+past (Accepted header) = 16
+past Malformed = numberOf Malformed
+past OtherLargest = numberOf OtherLargest
+past OtherSize = numberOf OtherSize
+
+past-refuses : (reading : Reading) → past reading ≡ 0 → ⊥
+past-refuses (Accepted header) e = omega arith
+past-refuses Malformed e = omega arith
+past-refuses OtherLargest e = omega arith
+past-refuses OtherSize e = omega arith
 
 module _ (file : List ℕ) where
-  -- the header lies within the first bytes
-  same-header : headerOf (take inputLimit file) ≡ headerOf file
-  same-header = ap headerIn (take-take headerLimit inputLimit file (omega arith))
+  -- however many those are
+  past-number : (reading : Reading) (size : ℕ) → headerOf file ≡ reading → inputLimit ≤ size → firstOf (fileChecks reading size) ≡ past reading
+  past-number (Accepted header) size reads many =
+      let fits = accepted-headers-fit file header reads in
+      let more : samplesDue header < size - header .start = omega (arith, fits .short, fits .most) in
+      rw (le-ltb _ _ (le-of-lt more), lt-ltb _ _ more) refl
+  past-number Malformed size reads many = refl
+  past-number OtherLargest size reads many = refl
+  past-number OtherSize size reads many = refl
 
-  -- an accepted header's picture is the same, or too long either way
-  same-picture : (header : Header) → Fitting header (length file)
-      → pictureAnswer header (drop (header .start) (take inputLimit file)) ≡ pictureAnswer header (drop (header .start) file)
-  same-picture header fits =
-      either (length file) inputLimit
-      (λ few. ap (λ (l : List ℕ). pictureAnswer header (drop (header .start) l)) (take-all inputLimit file few))
-      (λ many.
-      too-many header (drop (header .start) (take inputLimit file))
-      (omega (arith, fits .short, fits .most, length-drop (header .start) (take inputLimit file), length-take-le inputLimit file (le-of-lt many)))
-      ∙ sym (too-many header (drop (header .start) file)
-      (omega (arith, fits .short, fits .most, length-drop (header .start) file))))
+  past-answer : (begin : List ℕ) → headerOf begin ≡ headerOf file → inputLimit ≤ length begin → answer begin ≡ refusalLine (past (headerOf file))
+  unfolding fileNumber
+  past-answer begin same many =
+      let number : fileNumber begin ≡ past (headerOf file) =
+      ap (λ (r : Reading). firstOf (fileChecks r (length begin))) same ∙ past-number (headerOf file) (length begin) refl many in
+      refused-answer begin (λ e. past-refuses (headerOf file) (sym number ∙ e)) ∙ ap refusalLine number
 
-  same-answer : (reading : Reading) → headerOf file ≡ reading → answerTo reading (take inputLimit file) ≡ answerTo reading file
-  same-answer (Accepted header) reads = same-picture header (accepted-headers-fit file header reads)
-  same-answer Malformed reads = refl
-  same-answer OtherLargest reads = refl
-  same-answer OtherSize reads = refl
-
-  -- an accepted header's picture fits, and so does every refusal
-  picture-fits : (header : Header) → Fitting header (length file) → length (pictureAnswer header (drop (header .start) file)) ≤ outputLimit
-  unfolding pictureAnswer picture
-  picture-fits header fits =
-      let samples = drop (header .start) file in
-      let number = firstOf (sampleChecks (samplesDue header) (length samples)) in
-      either-leaves number (picture (header .width) (header .height) samples) (refusalLine number) (λ (l : List ℕ). length l ≤ outputLimit)
-      (λ accepted.
-      let exact = checks-passed (samplesDue header) (length samples) accepted in
-      let shot = legal-shot (header .width * header .height) (length samples) exact (fits .some) (fits .most) in
-      omega (
-        arith,
-        length-append (headerText (header .width) (header .height)) (balanced samples),
-        written-headers-fit (header .width) (header .height) (fits .some) (fits .most),
-        balanced-length samples (shot .whole),
-        exact,
-        fits .most,
-      ))
-      (omega (arith, refusal-short number (samples-small number (samplesDue header) (length samples) refl)))
-
-  answer-fits : (reading : Reading) → headerOf file ≡ reading → length (answerTo reading file) ≤ outputLimit
-  answer-fits (Accepted header) reads = picture-fits header (accepted-headers-fit file header reads)
-  answer-fits Malformed reads = omega (arith, refusal-short 12 (omega arith))
-  answer-fits OtherLargest reads = omega (arith, refusal-short 13 (omega arith))
-  answer-fits OtherSize reads = omega (arith, refusal-short 14 (omega arith))
+  same-answer : inputLimit < length file → answer (take inputLimit file) ≡ answer file
+  same-answer many =
+      past-answer (take inputLimit file) (ap headerIn (take-take headerLimit inputLimit file (omega arith)))
+      (omega (arith, length-take-le inputLimit file (le-of-lt many)))
+      ∙ sym (past-answer file refl (le-of-lt many))
 
 pub first-bytes-are-enough : FirstBytesAreEnough
-unfolding answer
 first-bytes-are-enough file =
-    ap (λ (r : Reading). answerTo r (take inputLimit file)) (same-header file) ∙ same-answer file (headerOf file) refl
+    either (length file) inputLimit (λ few. ap answer (take-all inputLimit file few)) (same-answer file)
 
+-- an answer is a picture that fits, or a short line
 pub answers-fit : AnswersFit
-unfolding answer
-answers-fit file = answer-fits file (headerOf file) refl
+unfolding answer picture fileNumber
+answers-fit file =
+    either-leaves (fileNumber file) (picture (fileHeader file .width) (fileHeader file .height) (fileSamples file)) (refusalLine (fileNumber file))
+    (λ (l : List ℕ). length l ≤ outputLimit)
+    (λ legal.
+    let fits = legal-fits file legal in
+    let exact = legal-exact file legal in
+    let shot = legal-shot (fileHeader file .width * fileHeader file .height) (length (fileSamples file)) exact (fits .some) (fits .most) in
+    omega (
+      arith,
+      length-append (headerText (fileHeader file .width) (fileHeader file .height)) (balanced (fileSamples file)),
+      written-headers-fit (fileHeader file .width) (fileHeader file .height) (fits .some) (fits .most),
+      balanced-length (fileSamples file) (shot .whole),
+      exact,
+      fits .most,
+    ))
+    (omega (arith, refusal-short (fileNumber file) (number-small (headerOf file) (length file))))
 
 -- for callers: the bytes to be written lie within the output
 pub size-within : (file output after : List ℕ) (size : ℕ) → outcome file output ≡ record { size = size; output = after } → size ≤ length after

@@ -3,24 +3,13 @@
 use mathlib.Core.Path.{_≡_}
 use mathlib.Core.List.{List, [], _∷_, _++_, map}
 use Prim.Native.Nat.{ℕ}
-use lib.ListN.{length, drop}
+use lib.ListN.{length}
 use Rattle.pixel.specs.Strip.{Bytes}
+use Rattle.shot.specs.Accuracy.{Accurate}
 use Rattle.shot.specs.Book.{Call, Call.measuring, Call.fixing, Call.colouring}
 use Rattle.shot.specs.Run.{Step, trace, number}
-use Rattle.netpbm.specs.Header.{headerOf, headerText}
-use Rattle.netpbm.specs.declared.Header.{Header}
-use Rattle.netpbm.specs.declared.Reading.the-variants.{Accepted}
-use Rattle.still.specs.Still.{fileChoice, fileMethod, samplesDue, answer}
-
--- A legal file: its header is accepted, and exactly the samples that it says follow.
-pub record Legal (file : List ℕ) : Type 0 where
-  pub header : Header
-  pub reads : headerOf file ≡ Accepted header
-  pub exact : length (drop (header .start) file) ≡ samplesDue header
-
--- Its samples.
-abbrev pub samplesOf : {file : List ℕ} → Legal file → List ℕ
-samplesOf {file} legal = drop (legal .header .start) file
+use Rattle.netpbm.specs.Header.{headerText}
+use Rattle.still.specs.Still.{fileChoice, fileMethod, fileHeader, fileSamples, answer, Legal}
 
 -- The calls that a picture takes, into a destination that may hold anything: a new shot is measured by its samples, fixed, and used to
 -- colour them.
@@ -36,17 +25,24 @@ abbrev pub bytesLeft : List Step → List ℕ
 bytesLeft [] = []
 bytesLeft (t ∷ steps) = t .outcome .bytes ++ bytesLeft steps
 
--- Claim: what is written for a legal file is a header and what those calls write, none of which is refused.
--- Proved: proofs/Agreement.antt, `files-follow-shots`.
-pub record FilesFollowShots : Type 0 where
-  pub accepted : (file : List ℕ) → Bytes file → (legal : Legal file) (destination : List ℕ) → length destination ≡ samplesDue (legal .header)
-      → map number (trace (callsOf (samplesOf legal) destination)) ≡ 0 ∷ 0 ∷ 0 ∷ []
-  pub written : (file : List ℕ) → Bytes file → (legal : Legal file) (destination : List ℕ) → length destination ≡ samplesDue (legal .header)
-      → answer file
-      ≡ headerText (legal .header .width) (legal .header .height) ++ bytesLeft (trace (callsOf (samplesOf legal) destination))
+-- What is written for a file is a header and what those calls write.
+pub record FollowsShot (file destination : List ℕ) : Type 0 where
+  -- none of the calls is refused
+  pub accepted : map number (trace (callsOf (fileSamples file) destination)) ≡ 0 ∷ 0 ∷ 0 ∷ []
+  -- what they write follows the header
+  pub written : answer file
+      ≡ headerText (fileHeader file .width) (fileHeader file .height) ++ bytesLeft (trace (callsOf (fileSamples file) destination))
+  -- and demand 3 holds of them
+  pub accurate : Accurate (callsOf (fileSamples file) destination)
+
+-- Claim: that is so for every legal file. Proved: proofs/Agreement.antt, `files-follow-shots`.
+abbrev pub FilesFollowShots : Type 0
+FilesFollowShots =
+    (file : List ℕ) → Bytes file → Legal file → (destination : List ℕ) → length destination ≡ length (fileSamples file)
+    → FollowsShot file destination
 
 -- Claim: what is written for a legal file is a legal file of the same size. Proved: proofs/Agreement.antt, `answers-are-files`.
 pub record AnswersAreFiles : Type 0 where
   pub legal : (file : List ℕ) → Legal file → Legal (answer file)
-  pub width : (file : List ℕ) (l : Legal file) → legal file l .header .width ≡ l .header .width
-  pub height : (file : List ℕ) (l : Legal file) → legal file l .header .height ≡ l .header .height
+  pub width : (file : List ℕ) → Legal file → fileHeader (answer file) .width ≡ fileHeader file .width
+  pub height : (file : List ℕ) → Legal file → fileHeader (answer file) .height ≡ fileHeader file .height

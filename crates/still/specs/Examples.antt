@@ -26,6 +26,8 @@ unfoldable pub examples : List Example
 examples =
     -- "input P6, LF, 2 1, LF, 255, LF, then bytes 100, 100, 100, 200, 200, 200: output the same header, then 127, 127, 127, 255, 255, 255"
     (twoGreys 100 200 gives twoGreys 127 255)
+    -- by method 2: method 1 would give other samples
+    ∷ (twoPixels ++ (10 ∷ 20 ∷ 30 ∷ 255 ∷ 255 ∷ 255 ∷ []) gives twoPixels ++ (95 ∷ 127 ∷ 159 ∷ 255 ∷ 255 ∷ 255 ∷ []))
     -- the header is written without leading zeros
     ∷ (ascii "P6 002 01 0255 " ++ replicate 3 100 ++ replicate 3 200 gives twoGreys 127 255)
     -- 12; 13, also where samples are missing; 14, also where bytes follow

@@ -3,6 +3,7 @@ use mathlib.Core.Path.{_≡_}
 use Prim.Native.Nat.{ℕ, _*_, _≤_, _<_}
 use Rattle.shot.specs.Inner.{WholeShot}
 use Rattle.netpbm.specs.Header.{areaLimit}
+use Rattle.netpbm.specs.declared.Header.{Header}
 use Rattle.still.specs.Still.{fileChoice, outputLimit}
 
 -- By their lengths: the source makes a shot that can be fixed, and the destination is as long.
@@ -16,3 +17,8 @@ pub record Writable (width height samples output : ℕ) : Type 0 where
   pub some : 0 < width * height
   pub most : width * height ≤ areaLimit
   pub room : outputLimit ≤ output
+
+-- What every header that was read keeps in a file of so many bytes, refused ones too (they say 0).
+pub record Readable (header : Header) (file : ℕ) : Type 0 where
+  pub starts : header .start ≤ file
+  pub most : header .width * header .height ≤ areaLimit

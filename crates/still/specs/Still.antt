@@ -1,7 +1,8 @@
 -- The whole job of one still picture (document 01, "Frames from a file"): from the bytes of a file to the bytes to write.
-use mathlib.Core.Bool.{cond}
+use mathlib.Core.Path.{_≡_}
+use mathlib.Core.Bool.{cond, not}
 use mathlib.Core.List.{List, [], _∷_, _++_}
-use Prim.Native.Nat.{ℕ, _+_, _*_}
+use Prim.Native.Nat.{ℕ, _+_, _-_, _*_}
 use lib.Dec.{ltb, eqb}
 use lib.ListN.{length, drop}
 use Rattle.refusal.specs.Refusal.{Check, _refuses_, firstOf}
@@ -10,10 +11,9 @@ use Rattle.text.specs.Text.{ascii, writtenAt}
 use Rattle.pixel.specs.Methods.{methodOf}
 use Rattle.colouring.specs.Colouring.{colouredStrip}
 use Rattle.shot.specs.Book.{curveOf}
-use Rattle.netpbm.specs.Header.{areaLimit, headerOf, numberOf, headerText, writtenLimit}
+use Rattle.netpbm.specs.Header.{areaLimit, headerOf, numberOf, valuesOf, headerText, writtenLimit}
 use Rattle.netpbm.specs.declared.Header.{Header}
 use Rattle.netpbm.specs.declared.Reading.{Reading}
-use Rattle.netpbm.specs.declared.Reading.the-variants.{Accepted, Malformed, OtherLargest, OtherSize}
 
 -- "fixes the cube curve from it": choice 1.
 abbrev pub fileChoice : ℕ
@@ -44,22 +44,33 @@ samplesDue header = 3 * (header .width * header .height)
 abbrev pub sampleChecks : ℕ → ℕ → List Check
 sampleChecks due present = ltb present due refuses 15 ∷ ltb due present refuses 16 ∷ []
 
--- What is written for a header that is accepted and the bytes after it: the picture, or the refusal.
-unfoldable pub pictureAnswer : Header → List ℕ → List ℕ
-pictureAnswer header samples =
-    let number = firstOf (sampleChecks (samplesDue header) (length samples)) in
-    cond (eqb number 0) (picture (header .width) (header .height) samples) (refusalLine number)
+-- File 12, 13, 14, 15, 16, by what reading the header answers and how many bytes the file has: the header's own refusal first.
+abbrev pub fileChecks : Reading → ℕ → List Check
+fileChecks reading size =
+    not (eqb (numberOf reading) 0) refuses numberOf reading
+    ∷ sampleChecks (samplesDue (valuesOf reading)) (size - valuesOf reading .start)
 
--- What is written for a file, by what reading its header answers. File 12, 13, 14, 15, 16: the header's own refusals come first.
-abbrev pub answerTo : Reading → List ℕ → List ℕ
-answerTo (Accepted header) file = pictureAnswer header (drop (header .start) file)
-answerTo Malformed file = refusalLine (numberOf Malformed)
-answerTo OtherLargest file = refusalLine (numberOf OtherLargest)
-answerTo OtherSize file = refusalLine (numberOf OtherSize)
+-- The answer's number for a file: 0, or that of the first refusal that applies.
+unfoldable pub fileNumber : List ℕ → ℕ
+fileNumber file = firstOf (fileChecks (headerOf file) (length file))
 
--- What `balance` writes for a file.
+-- A legal file: no refusal applies.
+abbrev pub Legal : List ℕ → Type 0
+Legal file = fileNumber file ≡ 0
+
+-- What a file's header says, and the samples after it.
+abbrev pub fileHeader : List ℕ → Header
+fileHeader file = valuesOf (headerOf file)
+
+abbrev pub fileSamples : List ℕ → List ℕ
+fileSamples file = drop (fileHeader file .start) file
+
+-- What `balance` writes for a file: the picture, or the refusal.
 unfoldable pub answer : List ℕ → List ℕ
-answer file = answerTo (headerOf file) file
+answer file =
+    cond (eqb (fileNumber file) 0)
+    (picture (fileHeader file .width) (fileHeader file .height) (fileSamples file))
+    (refusalLine (fileNumber file))
 
 -- An output of so many bytes has room for every answer (specs/Limits.antt): a header, and three samples to a pixel.
 abbrev pub outputLimit : ℕ

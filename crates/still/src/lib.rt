@@ -1,14 +1,13 @@
 // The whole job of one still picture (document 01, "Frames from a file"): from the bytes of a file to the bytes to write.
 ghost use mathlib.Core.Path.{_≡_};
 ghost use Prim.Native.Nat.{_+_, _≤_};
-ghost use lib.ListN.{length, drop};
+ghost use lib.ListN.{length, replicate};
 ghost use Rattle.refusal.specs.Refusal.{firstOf};
 ghost use Rattle.text.specs.Text.{Writes};
-ghost use Rattle.netpbm.specs.Header.{Fitting};
-ghost use Rattle.still.specs.Inner.{Colourable, Writable};
+ghost use Rattle.netpbm.specs.Header.{valuesOf};
+ghost use Rattle.still.specs.Inner.{Colourable, Writable, Readable};
 ghost use Rattle.still.specs.Limits.{inputLimit};
-ghost use Rattle.still.specs.Still.{balanced, picture, refusalLine, sampleChecks, pictureAnswer, outputLimit, outcome};
-use netpbm::Header;
+ghost use Rattle.still.specs.Still.{balanced, picture, refusalLine, sampleChecks, fileChecks, outputLimit, outcome};
 use netpbm::Reading;
 use shot::Shot;
 
@@ -25,14 +24,14 @@ const YANG_LEE: u32 = 2;
 
 // Room for the bytes of a file that are read.
 pub fn input_buffer() -> [u8; INPUT_LIMIT]
-    ensures { λ r. ⌜ length r ≡ inputLimit ⌝ }
+    ensures { λ r. ⌜ r ≡ replicate inputLimit 0 ⌝ }
 {
     [0; INPUT_LIMIT]
 }
 
 // Room for every answer.
 pub fn output_buffer() -> [u8; OUTPUT_LIMIT]
-    ensures { λ r. ⌜ length r ≡ outputLimit ⌝ }
+    ensures { λ r. ⌜ r ≡ replicate outputLimit 0 ⌝ }
 {
     [0; OUTPUT_LIMIT]
 }
@@ -47,7 +46,7 @@ fn write_refusal(number: u32, output: &mut [u8]) -> usize
     text::write_text(b"\n", output, end)
 }
 
-// File 15, 16: 0, or the number of the first that applies.
+// File 15, 16, by how many samples are due and how many bytes are present: 0, or the number of the first that applies.
 fn samples_number(due: usize, present: usize) -> u32
     ensures { λ r. ⌜ r ≡ firstOf (sampleChecks due present) ⌝ }
 {
@@ -58,6 +57,20 @@ fn samples_number(due: usize, present: usize) -> u32
         return 16;
     }
     0
+}
+
+// File 12, 13, 14, 15, 16, by what reading the header answers and the file's size: 0, or the number of the first that applies.
+fn file_number(reading: Reading, size: usize) -> u32
+    requires { ⌜ Readable (valuesOf reading) size ⌝ }
+    ensures { λ r. ⌜ r ≡ firstOf (fileChecks reading size) ⌝ }
+{
+    let header = netpbm::values_of(reading);
+    let number = netpbm::number_of(reading);
+    if number != 0 {
+        return number;
+    }
+    let due = 3 * netpbm::area(header.width, header.height) as usize;
+    samples_number(due, size - header.start)
 }
 
 // Colours the samples of a picture by its own curve.
@@ -83,21 +96,6 @@ fn write_picture(width: u32, height: u32, samples: &[u8], output: &mut [u8]) -> 
     end
 }
 
-// The answer for a header that is accepted.
-fn balance_picture(header: Header, file: &[u8], output: &mut [u8]) -> usize
-    requires { ⌜ Fitting header (length (now file)) × (outputLimit ≤ length (now output)) ⌝ }
-    ensures { λ r. ⌜ Writes 0 (pictureAnswer header (drop (header .start) (now (file .entry)))) (now (output .entry)) r (now (output .exit)) ⌝ }
-{
-    let start = header.start;
-    let samples = &file[start..];
-    let due = 3 * netpbm::area(header.width, header.height) as usize;
-    let number = samples_number(due, samples.len());
-    if number != 0 {
-        return write_refusal(number, output);
-    }
-    write_picture(header.width, header.height, samples, output)
-}
-
 // The whole job: the answer to a file, at the start of the output. Hands back how many of its bytes are to be written; an output shorter
 // than `OUTPUT_LIMIT` stays as it was, and none is.
 pub fn balance_file(file: &[u8], output: &mut [u8]) -> usize
@@ -107,10 +105,11 @@ pub fn balance_file(file: &[u8], output: &mut [u8]) -> usize
         return 0;
     }
     let reading = netpbm::read_header(file);
-    match reading {
-        Reading::Accepted(header) => balance_picture(header, file, output),
-        Reading::Malformed | Reading::OtherLargest | Reading::OtherSize => {
-            write_refusal(netpbm::number_of(reading), output)
-        }
+    let number = file_number(reading, file.len());
+    if number != 0 {
+        return write_refusal(number, output);
     }
+    let header = netpbm::values_of(reading);
+    let start = header.start;
+    write_picture(header.width, header.height, &file[start..], output)
 }

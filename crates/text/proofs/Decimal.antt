@@ -133,5 +133,5 @@ decimal-means = record {
   some = some-within 19;
   value = value-within 20;
   noZeroFirst = first-within 20;
-  most = λ n k some _ less. length-most n k some less;
+  most = length-most;
 }

@@ -77,9 +77,6 @@ module _ (place : ℕ) (text run : List ℕ) where
     written-end past = sofar .written ∙ ap (λ (t : List ℕ). writtenAt place t run) (take-all count text past)
 
 -- Pieces of text, written one after the other.
-pub writes-nothing : (place : ℕ) (run : List ℕ) → Writes place [] run place run
-writes-nothing place run = record { ends = omega arith; holds = written-nothing place run }
-
 module _ {place end : ℕ} {text run output : List ℕ} (wrote : Writes place text run end output) where
   pub writes-length : end ≤ length run → length output ≡ length run
   writes-length fits = ap length (wrote .holds) ∙ length-written place text run (omega (arith, wrote .ends))

@@ -44,4 +44,4 @@ pub record DecimalMeans : Type 0 where
   pub some : (n : ℕ) → 0 < length (decimal n)
   pub value : (n : ℕ) → n < 10 ^ 20 → value (decimal n) ≡ n
   pub noZeroFirst : (n : ℕ) → 0 < n → n < 10 ^ 20 → zeroCode < at (decimal n) 0
-  pub most : (n k : ℕ) → 0 < k → k ≤ 20 → n < 10 ^ k → length (decimal n) ≤ k
+  pub most : (n k : ℕ) → 0 < k → n < 10 ^ k → length (decimal n) ≤ k

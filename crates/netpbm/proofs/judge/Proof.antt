@@ -3,6 +3,7 @@ use mathlib.Core.Path.{refl, sym, subst, _∙_}
 use Prim.Native.Nat.{ℕ, _≤_, _<_}
 use borrow.Author.Needs.{needs}
 use borrow.Author.Tests.{eq-eqb, ne-eqb, lt-ltb, le-ltb}
+use Rattle.netpbm.specs.Header.{areaLimit}
 use Rattle.netpbm.proofs.judge.Statement.{statement}
 use Rattle.netpbm.proofs.judge.Tie as tie
 
@@ -21,7 +22,7 @@ returns-3 c =
     rw (
       eq-eqb _ _ (sized .before .if1 .left),
       ne-eqb _ _ (λ e. c .before .if2 .left (sized .area .ensures ∙ e)),
-      lt-ltb 16384 _ (subst (λ (n : ℕ). 16384 < n) (sized .area .ensures) (c .if3 .taken)),
+      lt-ltb areaLimit _ (subst (λ (n : ℕ). areaLimit < n) (sized .area .ensures) (c .if3 .taken)),
     )
     refl
 
@@ -31,7 +32,7 @@ returns-4 c =
     rw (
       eq-eqb _ _ (sized .before .if1 .left),
       ne-eqb _ _ (λ e. c .before .if2 .left (sized .area .ensures ∙ e)),
-      le-ltb 16384 _ (subst (λ (n : ℕ). n ≤ 16384) (sized .area .ensures) (c .if3 .left)),
+      le-ltb areaLimit _ (subst (λ (n : ℕ). n ≤ areaLimit) (sized .area .ensures) (c .if3 .left)),
     )
     refl
 

@@ -3,7 +3,7 @@ use mathlib.Core.Path.{sym, ap, _∙_}
 use native.Mathlib.Nat.{le-of-lt}
 use borrow.Author.Needs.{needs}
 use lib.Seq.{take-all, length-take-le}
-use Rattle.netpbm.specs.Header.{headerIn}
+use Rattle.netpbm.specs.Header.{headerLimit, headerIn}
 use Rattle.netpbm.proofs.read_header.Statement.{statement}
 use Rattle.netpbm.proofs.read_header.Tie as tie
 
@@ -13,10 +13,10 @@ read-within-requires c κs = search needs
 returns : tie.Need-returns
 returns c =
     let start = c .before .before .before in
-    c .read-within .ensures ∙ ap headerIn (sym (take-all 64 (start .args .file .now) (le-of-lt (c .before .if1 .taken))))
+    c .read-within .ensures ∙ ap headerIn (sym (take-all headerLimit (start .args .file .now) (le-of-lt (c .before .if1 .taken))))
 
 slice-aggregate-read-within : tie.Need-slice-aggregate-read-within
-slice-aggregate-read-within c = sym (length-take-le 64 (c .before .before .before .args .file .now) (c .before .if1 .left))
+slice-aggregate-read-within c = sym (length-take-le headerLimit (c .before .before .before .args .file .now) (c .before .if1 .left))
 
 read-within-requires-2 : tie.Need-read-within-requires-2
 read-within-requires-2 c κs = search needs

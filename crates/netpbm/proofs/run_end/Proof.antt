@@ -15,39 +15,31 @@ Inv-loop class bytes place end₀ end = Running (isOf class) bytes place end
 abbrev μ-loop : tie.MeasureT-loop
 μ-loop class bytes place end₀ end = length bytes - end
 
--- src/lib.rt:72:5
 loop-holds : tie.Need-loop-holds Inv-loop μ-loop
 loop-holds c = refl
 
--- src/lib.rt:73:26
 shared-slice-read-is-of : tie.Need-shared-slice-read-is-of Inv-loop μ-loop
 shared-slice-read-is-of c = search needs
 
--- src/lib.rt:73:13
 is-of-requires : tie.Need-is-of-requires Inv-loop μ-loop
 is-of-requires c κs = search needs
 
--- src/lib.rt:74:13
 returns : tie.Need-returns Inv-loop μ-loop
 returns c =
     let looping = c .before .before .before in
     running-stop _ _ _ _ (looping .before .loop .inv) (looping .loop-test .taken) (sym (c .before .is-of .ensures) ∙ not-true _ (c .if1 .taken))
 
--- src/lib.rt:76:9
 add-end : tie.Need-add-end Inv-loop μ-loop
 add-end c = search needs
 
--- src/lib.rt:72:5
 loop-less : tie.Need-loop-less Inv-loop μ-loop
 loop-less c = search needs
 
--- src/lib.rt:72:5
 loop-again : tie.Need-loop-again Inv-loop μ-loop
 loop-again c =
     let looping = c .before .before .before in
     running-more _ _ _ _ (looping .before .loop .inv) (looping .loop-test .taken) (sym (c .before .is-of .ensures) ∙ not-false _ (c .if1 .left))
 
--- src/lib.rt:67:1
 returns-2 : tie.Need-returns-2 Inv-loop μ-loop
 returns-2 c = running-end _ _ _ _ (c .before .loop .inv) (c .loop-test .left)
 

@@ -1,17 +1,20 @@
 -- `still::balance_file` meets its contract.
 use mathlib.Core.Path.{_≡_, sym, ap, subst, _∙_}
 use mathlib.Core.List.{List}
-use Prim.Native.Nat.{ℕ, _<_}
+use Prim.Native.Nat.{ℕ, _-_, _≤_, _<_}
 use native.Mathlib.Omega.{arith}
 use borrow.Author.Needs.{needs}
+use lib.ListN.{length, take, drop}
+use Rattle.refusal.specs.Refusal.{firstOf}
 use Rattle.text.specs.Text.{Writes}
-use Rattle.netpbm.specs.Header.{headerOf}
+use Rattle.netpbm.specs.Header.{valuesOf}
+use Rattle.netpbm.specs.declared.Header.{Header}
 use Rattle.netpbm.specs.declared.Reading.{Reading}
-use Rattle.netpbm.specs.declared.Reading.the-variants.{Accepted}
-use Rattle.netpbm.proofs.Accepted.{accepted-headers-fit}
-use Rattle.still.specs.Still.{refusalLine, answerTo, answer}
-use Rattle.still.proofs.Answers.{refused-answer, short-outcome, answer-outcome}
-use Rattle.still.proofs.Sizes.{refusal-short, reading-small}
+use Rattle.still.specs.Inner.{Writable, Readable}
+use Rattle.still.specs.Still.{picture, refusalLine, fileChecks, fileNumber, Legal, fileHeader}
+use Rattle.still.proofs.Answers.{file-readable, legal-fits, legal-exact, legal-answer, refused-answer, short-outcome, answer-outcome}
+use Rattle.still.proofs.Samples.{part-from}
+use Rattle.still.proofs.Sizes.{refusal-short, number-small}
 use Rattle.still.proofs.balance_file.Statement.{statement}
 use Rattle.still.proofs.balance_file.Tie as tie
 
@@ -21,59 +24,95 @@ returns c = short-outcome _ _ (c .if1 .taken)
 read-header-requires : tie.Need-read-header-requires
 read-header-requires c κs = search needs
 
-enum-known-reading : tie.Need-enum-known-reading
-enum-known-reading c = search needs
+file-number-requires : tie.Need-file-number-requires
+file-number-requires c κs =
+    let file = c .before .before .before .before .args .file .now in
+    subst (λ (r : Reading). Readable (valuesOf r) (length file)) (sym (c .read-header .ensures)) (file-readable file)
 
--- the header is accepted
-accepted : (c : tie.After-reading) → headerOf (c .before .before .before .before .before .before .args .file .now) ≡ Accepted (c .reading .given .0 .0)
-accepted c = sym (c .before .before .read-header .ensures) ∙ c .reading .given .1
-
-balance-picture-requires : tie.Need-balance-picture-requires
-balance-picture-requires c κs =
-    let reading = c .before .before in
-    (accepted-headers-fit (reading .before .before .before .before .before .before .args .file .now) _ (accepted reading), reading .before .before .before .if1 .left)
-
-number-of-requires : tie.Need-number-of-requires
-number-of-requires c κs = search needs
+-- the number is the file's
+number-is : (c : tie.After-file-number) → c .file-number .result ≡ fileNumber (c .before .before .before .before .before .args .file .now)
+unfolding fileNumber
+number-is c =
+    c .file-number .ensures
+    ∙ ap (λ (r : Reading). firstOf (fileChecks r (length (c .before .before .before .before .before .args .file .now)))) (c .before .read-header .ensures)
 
 write-refusal-requires : tie.Need-write-refusal-requires
 write-refusal-requires c κs =
-    let reading = c .before .before .before .read-header .result in
-    let small = subst (λ (n : ℕ). n < 100) (sym (c .before .number-of .ensures)) (reading-small reading) in
-    omega (arith, refusal-short (c .before .number-of .result) small, c .before .before .before .before .if1 .left)
+    let numbered = c .before .before in
+    let small = subst (λ (n : ℕ). n < 100) (sym (numbered .file-number .ensures)) (number-small (numbered .before .read-header .result) _) in
+    omega (arith, refusal-short (numbered .file-number .result) small, numbered .before .before .if1 .left)
 
 same-length : tie.Need-same-length
 same-length c = search needs
 
 returns-2 : tie.Need-returns-2
-unfolding answer
 returns-2 c =
     let writing = c .before .before in
-    let reading = writing .before .before .before in
-    let start = reading .before .before .before .before .before .before in
+    let numbered = writing .before .before .before in
+    let start = numbered .before .before .before .before .before in
     let file = start .args .file .now in
-    answer-outcome file _ _ _ (reading .before .before .before .if1 .left)
-    (subst (λ (r : Reading). Writes 0 (answerTo r file) (start .args .output .now) (writing .balance-picture .result) (writing .balance-picture .last .1 .1 .0))
-    (sym (accepted reading))
-    (writing .balance-picture .ensures))
+    answer-outcome file _ _ _ (numbered .before .before .if1 .left)
+    (subst (λ (text : List ℕ). Writes 0 text (start .args .output .now) (writing .write-refusal .result) (writing .write-refusal .last .1 .0))
+    (ap refusalLine (number-is numbered) ∙ sym (refused-answer file (λ e. writing .before .before .if2 .taken (number-is numbered ∙ e))))
+    (writing .write-refusal .ensures))
+
+values-of-requires : tie.Need-values-of-requires
+values-of-requires c κs = search needs
+
+-- no refusal applies
+legal : (c : tie.Else2) → Legal (c .before .before .before .before .before .before .args .file .now)
+legal c = sym (number-is (c .before)) ∙ c .if2 .left
+
+-- the values are the file's
+header-is : (c : tie.After-values-of) → c .values-of .result ≡ fileHeader (c .before .before .before .before .before .before .before .args .file .now)
+header-is c = c .values-of .ensures ∙ ap valuesOf (c .before .before .before .read-header .ensures)
+
+-- they start within the file
+starts : (c : tie.After-values-of) → c .values-of .result .start ≤ length (c .before .before .before .before .before .before .before .args .file .now)
+starts c =
+    let file = c .before .before .before .before .before .before .before .args .file .now in
+    subst (λ (header : Header). header .start ≤ length file) (sym (header-is c)) (file-readable file .starts)
+
+sub-write-picture : tie.Need-sub-write-picture
+sub-write-picture c = starts c
+
+part-write-picture-start : tie.Need-part-write-picture-start
+part-write-picture-start c = starts c
+
+part-write-picture-end : tie.Need-part-write-picture-end
+part-write-picture-end c = search needs
+
+write-picture-requires : tie.Need-write-picture-requires
+write-picture-requires c κs =
+    let values = c .before .before in
+    let start = values .before .before .before .before .before .before .before in
+    let file = start .args .file .now in
+    let fits = legal-fits file (legal (values .before)) in
+    subst (λ (header : Header).
+    Writable (header .width) (header .height) (length (take (length file - header .start) (drop (header .start) file))) (length (start .args .output .now)))
+    (sym (header-is values))
+    (record {
+      exact = ap length (part-from (fileHeader file .start) file) ∙ legal-exact file (legal (values .before));
+      some = fits .some;
+      most = fits .most;
+      room = values .before .before .before .before .if1 .left;
+    })
 
 same-length-2 : tie.Need-same-length-2
 same-length-2 c = search needs
 
 returns-3 : tie.Need-returns-3
-unfolding answer
 returns-3 c =
     let writing = c .before .before in
-    let numbered = writing .before .before in
-    let reading = numbered .before .before in
-    let start = reading .before .before .before .before in
+    let values = writing .before .before .before in
+    let start = values .before .before .before .before .before .before .before in
     let file = start .args .file .now in
-    answer-outcome file _ _ _ (reading .before .if1 .left)
-    (subst (λ (text : List ℕ). Writes 0 text (start .args .output .now) (writing .write-refusal .result) (writing .write-refusal .last .1 .0))
-    (ap refusalLine (numbered .number-of .ensures)
-    ∙ sym (refused-answer (reading .read-header .result) file (numbered .before .match .keys2))
-    ∙ ap (λ (r : Reading). answerTo r file) (reading .read-header .ensures))
-    (writing .write-refusal .ensures))
+    answer-outcome file _ _ _ (values .before .before .before .before .if1 .left)
+    (subst (λ (text : List ℕ). Writes 0 text (start .args .output .now) (writing .write-picture .result) (writing .write-picture .last .1 .1 .1 .0))
+    (ap (λ (header : Header). picture (header .width) (header .height) (take (length file - header .start) (drop (header .start) file))) (header-is values)
+    ∙ ap (picture (fileHeader file .width) (fileHeader file .height)) (part-from (fileHeader file .start) file)
+    ∙ sym (legal-answer file (legal (values .before))))
+    (writing .write-picture .ensures))
 
 pub balance-file-spec : {M : Type 1} → statement M
 balance-file-spec =
@@ -81,11 +120,14 @@ balance-file-spec =
     (tie.spec
     returns
     read-header-requires
-    enum-known-reading
-    balance-picture-requires
-    number-of-requires
+    file-number-requires
     write-refusal-requires
     same-length
     returns-2
+    values-of-requires
+    sub-write-picture
+    part-write-picture-start
+    part-write-picture-end
+    write-picture-requires
     same-length-2
     returns-3)

@@ -37,12 +37,12 @@ def mixed(one, other, thousandths):
     return tuple((a * (1000 - thousandths) + b * thousandths) // 1000 for a, b in zip(one, other))
 
 
-def lit(colour, x, y, cx, cy, rx, ry, dark=380):
+def lit(colour, x, y, cx, cy, rx, ry):
     """The colour on a rounded body, with a lamp at the upper left in front of it."""
     u, v = 1000 * (x - cx) // rx, 1000 * (y - cy) // ry
     toward = isqrt(max(0, 1000**2 - u * u - v * v))
     light = max(0, (-520 * u - 480 * v + 706 * toward) // 1000)
-    return scaled(colour, dark + (1080 - dark) * light // 1000)
+    return scaled(colour, 380 + 700 * light // 1000)
 
 
 def background(x, y):

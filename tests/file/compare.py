@@ -113,6 +113,8 @@ def samples():
         there.discard(name)
     for name in sorted(there):
         fault(name, "has no script that draws it")
+    if not drawings:
+        fault("samples", "there is no picture")
     print(f"file: samples: {len(drawings)} pictures")
 
 
@@ -140,7 +142,7 @@ def every_byte():
 
 
 def edited(file):
-    """One byte of the first 16 replaced, inserted or deleted, or now and then the end cut or lengthened."""
+    """One byte of the first 17 replaced, inserted or deleted, or now and then the end cut or lengthened."""
     if RANDOM.random() < 0.15:
         return RANDOM.choice((file[: -RANDOM.randint(1, 3)], file + RANDOM.randbytes(RANDOM.randint(1, 3))))
     place = RANDOM.randrange(min(len(file), 16) + 1)

@@ -10,7 +10,7 @@ fn main() {
     let read = io::read_full(STDIN_FILENO, &mut file);
     let size = still::balance_file(&file[..read], &mut output);
     if !io::write_all(STDOUT_FILENO, &output[..size]) {
-        // a program has no exit status, so that this is all that can be done
+        // a program has no exit status, so this is all that can be done
         io::write_all(STDERR_FILENO, b"balance: the output could not be written\n");
     }
 }

@@ -44,7 +44,7 @@ module _ (P : Reading → Type 0) (malformed : P Malformed) where
       or-malformed (isSpace (at bytes end₃)) _ (each width height largest end₃)))))
 
 judged-fits : (file width height largest start : ℕ) → start ≤ file → start ≤ headerLimit → Fits file (judged width height largest start)
-judged-fits file width height largest start begins short =
+judged-fits file width height largest start starts short =
     go (not (eqb largest 255)) (eqb area 0) (ltb areaLimit area) (eqb-false area 0) (ltb-false areaLimit area)
   where
     area : ℕ
@@ -56,7 +56,7 @@ judged-fits file width height largest start begins short =
     go false true over some most = tt
     go false false true some most = tt
     go false false false some most =
-        record { begins = begins; short = short; some = omega (arith, some refl); most = most refl }
+        record { starts = starts; short = short; some = omega (arith, some refl); most = most refl }
 
 pub accepted-headers-fit : AcceptedHeadersFit
 accepted-headers-fit file header reads =

@@ -4,11 +4,12 @@ use mathlib.Core.Bool.{true, false, false≢true}
 use mathlib.Core.List.{List}
 use Prim.Native.Nat.{ℕ, zero, suc, _+_, _-_, _≤_, _<_}
 use native.Mathlib.Omega.{arith}
-use borrow.Author.Tests.{leb-true, ne-eqb}
+use borrow.Author.Tests.{ne-eqb}
 use lib.ListN.{length, List·getD-eq-default}
 use Rattle.tables.specs.Table.{at}
-use Rattle.tables.proofs.Cases.{both, cannot, either}
-use Rattle.text.specs.Decimal.{isDigit}
+use Rattle.tables.proofs.Cases.{cannot, either}
+use Rattle.text.specs.Decimal.{zeroCode, isDigit}
+use Rattle.text.proofs.Decimal.{digit-range}
 use Rattle.netpbm.specs.Header.{isSpace}
 
 -- tab, LF, VT, FF and CR follow one another
@@ -36,7 +37,7 @@ not-space b space control =
 
 pub digit-no-space : (b : ℕ) → isDigit b ≡ true → isSpace b ≡ false
 digit-no-space b digit =
-    let least = leb-true 48 b (both _ _ digit .0) in
+    let least : zeroCode ≤ b = digit-range b digit .0 in
     not-space b (λ e. omega arith) (λ low high. omega arith)
 
 pub space-no-digit : (b : ℕ) → isSpace b ≡ true → isDigit b ≡ false

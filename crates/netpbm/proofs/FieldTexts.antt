@@ -82,7 +82,7 @@ pub record FieldRead (bytes front : List ℕ) (next : ℕ → ℕ → Reading) :
   pub gap : List ℕ
   pub digits : List ℕ
   pub text : FieldText bytes front gap digits (drop (length (front ++ gap ++ digits)) bytes)
-  pub goes-on : next (value digits) (length (front ++ gap ++ digits)) ≡ Malformed → ⊥
+  pub not-malformed : next (value digits) (length (front ++ gap ++ digits)) ≡ Malformed → ⊥
 
 -- the front, and the field
 abbrev pub readTo : {bytes front : List ℕ} {next : ℕ → ℕ → Reading} → FieldRead bytes front next → List ℕ
@@ -118,7 +118,7 @@ module _ (bytes front : List ℕ) (begins : bytes ≡ front ++ drop (length fron
       ∙ ap (λ (n : ℕ). front ++ gapAt ++ numeralAt bytes place ++ drop n bytes) end-is
 
   pub field-sound : (next : ℕ → ℕ → Reading) → (afterNumber (fieldAt bytes place) next ≡ Malformed → ⊥) → FieldRead bytes front next
-  field-sound next goes-on =
+  field-sound next not-malformed =
       field-either bytes place
       (λ spaces some most. record {
         gap = gapAt;
@@ -132,10 +132,10 @@ module _ (bytes front : List ℕ) (begins : bytes ≡ front ++ drop (length fron
           };
           split = field-split;
         };
-        goes-on = λ malformed. goes-on (
+        not-malformed = λ malformed. not-malformed (
             ap (λ (field : Field). afterNumber field next) (field-number bytes place spaces some most)
             ∙ ap (next (value (numeralAt bytes place))) end-is
             ∙ malformed
             );
       })
-      (λ none. absurd (goes-on (ap (λ (field : Field). afterNumber field next) none)))
+      (λ none. absurd (not-malformed (ap (λ (field : Field). afterNumber field next) none)))

@@ -1,17 +1,29 @@
--- Laws of a header's field: white space, then a number.
+-- Laws of a header's fields, each white space and then a number.
 use mathlib.Core.Path.{_≡_, refl, ap, ap₂, _∙_}
-use mathlib.Core.Bool.{_&&_}
+use mathlib.Core.Bool.{true, _&&_, cond}
 use mathlib.Core.List.{List}
 use Prim.Native.Nat.{ℕ, _+_, _-_, _≤_, _<_}
 use native.Mathlib.Omega.{arith}
 use borrow.Author.Tests.{leb-true, le-leb}
+use borrow.Table.Steps.{cases}
 use lib.Dec.{leb}
 use lib.ListN.{length, take, drop, length-drop}
+use Rattle.tables.specs.Table.{at}
 use Rattle.tables.proofs.Cases.{both}
 use Rattle.text.specs.Decimal.{isDigit, Digits, value}
-use Rattle.netpbm.specs.Header.{isSpace, runLength, fieldAt}
+use Rattle.netpbm.specs.Header.{isSpace, runLength, fieldAt, judged, hasLetters, headerIn}
 use Rattle.netpbm.specs.declared.Field.the-variants.{Number, NoNumber}
-use Rattle.netpbm.proofs.Runs.{on-test, run-within, length-run, run-all}
+use Rattle.netpbm.specs.declared.Reading.the-variants.{Malformed}
+use Rattle.netpbm.proofs.Runs.{run-within, length-run, run-all}
+
+-- with the letters and three fields found, the byte after them decides
+pub last-decides : (bytes : List ℕ) (width height largest end₁ end₂ end₃ : ℕ) → hasLetters bytes ≡ true
+    → fieldAt bytes 2 ≡ Number width end₁
+    → fieldAt bytes end₁ ≡ Number height end₂
+    → fieldAt bytes end₂ ≡ Number largest end₃
+    → headerIn bytes ≡ cond (isSpace (at bytes end₃)) (judged width height largest (end₃ + 1)) Malformed
+unfolding headerIn
+last-decides bytes width height largest end₁ end₂ end₃ letters first second third = rw (letters, first, second, third) refl
 
 -- The field that begins at a place.
 module _ (bytes : List ℕ) (place : ℕ) where
@@ -41,7 +53,7 @@ module _ (bytes : List ℕ) (place : ℕ) where
   pub field-either : {P : Type 0} → (0 < spacesAt → 0 < digitsAt → digitsAt ≤ 5 → P) → (fieldAt bytes place ≡ NoNumber → P) → P
   unfolding fieldAt
   field-either number none =
-      on-test (leb 1 spacesAt && leb 1 digitsAt && leb digitsAt 5) refl
+      cases (leb 1 spacesAt && leb 1 digitsAt && leb digitsAt 5)
       (λ e.
       let (front, most) = both (leb 1 spacesAt && leb 1 digitsAt) (leb digitsAt 5) e in
       let (spaces, some) = both (leb 1 spacesAt) (leb 1 digitsAt) front in

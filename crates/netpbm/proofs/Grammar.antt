@@ -10,31 +10,22 @@ use lib.ListN.{length, take, drop, length-append, length-take, take-append-drop}
 use lib.Seq.{drop-cons, append-snoc, take-append-add, getD-append-seam}
 use Rattle.tables.specs.Table.{at}
 use Rattle.text.specs.Decimal.{value}
+use Rattle.text.specs.Text.{ascii}
 use Rattle.text.proofs.Decimal.{decimal-means}
-use Rattle.netpbm.specs.Header.{headerLimit, areaLimit, isSpace, fieldAt, judged, hasLetters, headerIn, headerOf}
+use Rattle.netpbm.specs.Header.{headerLimit, areaLimit, isSpace, judged, hasLetters, headerIn, headerOf}
 use Rattle.netpbm.specs.Grammar.{Parts, textOf, IsHeader, HasHeader, ReadingIsTheGrammar, WrittenIsRead}
-use Rattle.netpbm.specs.declared.Field.the-variants.{Number}
 use Rattle.netpbm.specs.declared.Reading.{Reading}
 use Rattle.netpbm.specs.declared.Reading.the-variants.{Accepted, Malformed}
 use Rattle.netpbm.proofs.Bytes.{space-within}
 use Rattle.netpbm.proofs.FieldTexts.{FieldText, readTo, one-space, white-stops, field-complete, field-sound}
+use Rattle.netpbm.proofs.Fields.{last-decides}
 use Rattle.netpbm.proofs.Letters.{letters-split}
-use Rattle.netpbm.proofs.Written.{width-fits, height-fits, written, written-text, written-is-header}
-
--- a header whose letters, three fields and last byte are found is judged by its numbers
-found-is-judged : (bytes : List ℕ) (width height largest end₁ end₂ end₃ : ℕ) → hasLetters bytes ≡ true
-    → fieldAt bytes 2 ≡ Number width end₁
-    → fieldAt bytes end₁ ≡ Number height end₂
-    → fieldAt bytes end₂ ≡ Number largest end₃
-    → isSpace (at bytes end₃) ≡ true
-    → headerIn bytes ≡ judged width height largest (end₃ + 1)
-unfolding headerIn
-found-is-judged bytes width height largest end₁ end₂ end₃ letters first second third space = rw (letters, first, second, third, space) refl
+use Rattle.netpbm.proofs.Written.{width-fits, height-fits, writtenParts, written-text, written-is-header}
 
 -- A header's text is read, whatever follows it.
 module _ (p : Parts) (header : IsHeader p) (rest : List ℕ) where
   abbrev letters : List ℕ
-  letters = 80 ∷ 54 ∷ []
+  letters = ascii "P6"
 
   -- the text up to the end of each number
   abbrev toWidth : List ℕ
@@ -72,11 +63,11 @@ module _ (p : Parts) (header : IsHeader p) (rest : List ℕ) where
 
   text-complete : headerIn (textOf p ++ rest) ≡ judged (value (p .width)) (value (p .height)) (value (p .largest)) (length (textOf p))
   text-complete =
-      found-is-judged (textOf p ++ rest) _ _ _ _ _ _ refl
+      last-decides (textOf p ++ rest) _ _ _ _ _ _ refl
       (field-complete width-text (white-stops (header .beforeHeight) (p .height ++ afterHeight)))
       (field-complete height-text (white-stops (header .beforeLargest) (p .largest ++ afterLargest)))
       (field-complete largest-text (white-stops (one-space (p .last) (header .last)) rest))
-      (ap isSpace last-at ∙ header .last)
+      ∙ rw (ap isSpace last-at ∙ header .last) refl
       ∙ ap (judged (value (p .width)) (value (p .height)) (value (p .largest))) (sym (length-append toLargest (p .last ∷ [])))
 
 -- the first n bytes hold a front that is no longer
@@ -92,8 +83,8 @@ complete p header samples =
 
 -- what is not malformed passed the test
 held : (test : Bool) (next : Reading) → (cond test next Malformed ≡ Malformed → ⊥) → (test ≡ true) × (next ≡ Malformed → ⊥)
-held true next goes-on = (refl, goes-on)
-held false next goes-on = absurd (goes-on refl)
+held true next not-malformed = (refl, not-malformed)
+held false next not-malformed = absurd (not-malformed refl)
 
 -- the white-space byte after the front, split off
 last-split : (bytes front : List ℕ) → bytes ≡ front ++ drop (length front) bytes → isSpace (at bytes (length front)) ≡ true
@@ -110,14 +101,14 @@ front-within bytes front rest split = omega (arith, ap length split, length-appe
 -- bytes within the limit that are not malformed begin with a header
 text-sound : (bytes : List ℕ) → length bytes ≤ headerLimit → (headerIn bytes ≡ Malformed → ⊥) → HasHeader bytes
 unfolding headerIn
-text-sound bytes short goes-on =
-    let (lettered, widths) = held (hasLetters bytes) _ goes-on in
-    let width = field-sound bytes (80 ∷ 54 ∷ []) (letters-split bytes lettered) _ widths in
-    let height = field-sound bytes (readTo width) (width .text .split) _ (width .goes-on) in
-    let largest = field-sound bytes (readTo height) (height .text .split) _ (height .goes-on) in
+text-sound bytes short not-malformed =
+    let (lettered, widths) = held (hasLetters bytes) _ not-malformed in
+    let width = field-sound bytes (ascii "P6") (letters-split bytes lettered) _ widths in
+    let height = field-sound bytes (readTo width) (width .text .split) _ (width .not-malformed) in
+    let largest = field-sound bytes (readTo height) (height .text .split) _ (height .not-malformed) in
     let end = length (readTo largest) in
     let answer = judged (value (width .digits)) (value (height .digits)) (value (largest .digits)) (end + 1) in
-    let (space, _) = held (isSpace (at bytes end)) answer (largest .goes-on) in
+    let (space, _) = held (isSpace (at bytes end)) answer (largest .not-malformed) in
     let p : Parts = record {
       beforeWidth = width .gap;
       width = width .digits;
@@ -146,11 +137,11 @@ text-sound bytes short goes-on =
     }
 
 sound : (file : List ℕ) → (headerOf file ≡ Malformed → ⊥) → HasHeader file
-sound file goes-on =
+sound file not-malformed =
     let begin = take headerLimit file in
     let rest = drop headerLimit file in
     let short : length begin ≤ headerLimit = rw length-take (min-le-left headerLimit (length file)) in
-    let header = text-sound begin short goes-on in
+    let header = text-sound begin short not-malformed in
     record {
       parts = header .parts;
       isHeader = header .isHeader;
@@ -174,11 +165,11 @@ written-is-read width height some most samples =
     let narrow = width-fits width height some most in
     let low = height-fits width height some most in
     ap (λ t. headerOf (t ++ samples)) (written-text width height)
-    ∙ complete (written width height) (written-is-header width height narrow low) samples
+    ∙ complete (writtenParts width height) (written-is-header width height narrow low) samples
     ∙ rw (
       decimal-means .value width (omega arith),
       decimal-means .value height (omega arith),
       decimal-means .value 255 (omega arith),
       written-text width height,
     )
-    (accepted width height (length (textOf (written width height))) some most)
+    (accepted width height (length (textOf (writtenParts width height))) some most)

@@ -12,7 +12,7 @@ use Rattle.tables.proofs.Cases.{both, either}
 use Rattle.netpbm.specs.Header.{hasLetters}
 
 -- they are two bytes
-pub letters-within : (bytes : List ℕ) → hasLetters bytes ≡ true → 2 ≤ length bytes
+letters-within : (bytes : List ℕ) → hasLetters bytes ≡ true → 2 ≤ length bytes
 letters-within bytes h =
     either (length bytes) 1
     (λ short. absurd (omega (arith, List·getD-eq-default bytes 0 short, eqb-true (at bytes 1) 54 (both (eqb (at bytes 0) 80) (eqb (at bytes 1) 54) h .1))))

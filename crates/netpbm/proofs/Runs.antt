@@ -8,49 +8,45 @@ use native.Mathlib.Numerals.{add-one}
 use native.Mathlib.Omega.{arith}
 use lib.ListN.{length, take, drop, drop-of-length-le}
 use lib.Seq.{drop-cons, length-take-le, getD-take}
+use borrow.Table.Steps.{cases}
 use Rattle.tables.specs.Table.{at}
 use Rattle.netpbm.specs.Header.{runLength}
 
--- by the two outcomes of a test
-pub on-test : {P : Type 0} (t : Bool) {u : Bool} → u ≡ t → (u ≡ true → P) → (u ≡ false → P) → P
-on-test true e passes fails = passes e
-on-test false e passes fails = fails e
-
 module _ (test : ℕ → Bool) where
-  pub run-in : (b : ℕ) (bytes : List ℕ) → test b ≡ true → runLength test (b ∷ bytes) ≡ suc (runLength test bytes)
+  run-in : (b : ℕ) (bytes : List ℕ) → test b ≡ true → runLength test (b ∷ bytes) ≡ suc (runLength test bytes)
   unfolding runLength
   run-in b bytes e = rw e refl
 
-  pub run-out : (b : ℕ) (bytes : List ℕ) → test b ≡ false → runLength test (b ∷ bytes) ≡ 0
+  run-out : (b : ℕ) (bytes : List ℕ) → test b ≡ false → runLength test (b ∷ bytes) ≡ 0
   unfolding runLength
   run-out b bytes e = rw e refl
 
-  pub run-nil : runLength test [] ≡ 0
+  run-nil : runLength test [] ≡ 0
   unfolding runLength
   run-nil = refl
 
   -- at a byte that passes, the run from a place is one longer than that from the next
-  pub run-step : (bytes : List ℕ) (place : ℕ) → place < length bytes → test (at bytes place) ≡ true
+  run-step : (bytes : List ℕ) (place : ℕ) → place < length bytes → test (at bytes place) ≡ true
       → runLength test (drop place bytes) ≡ suc (runLength test (drop (place + 1) bytes))
   run-step bytes place h e = rw (drop-cons bytes place 0 h, add-one place) (run-in _ _ e)
 
-  pub run-stop : (bytes : List ℕ) (place : ℕ) → place < length bytes → test (at bytes place) ≡ false → runLength test (drop place bytes) ≡ 0
+  run-stop : (bytes : List ℕ) (place : ℕ) → place < length bytes → test (at bytes place) ≡ false → runLength test (drop place bytes) ≡ 0
   run-stop bytes place h e = rw (drop-cons bytes place 0 h) (run-out _ _ e)
 
-  pub run-past : (bytes : List ℕ) (place : ℕ) → length bytes ≤ place → runLength test (drop place bytes) ≡ 0
+  run-past : (bytes : List ℕ) (place : ℕ) → length bytes ≤ place → runLength test (drop place bytes) ≡ 0
   run-past bytes place h = rw (drop-of-length-le bytes h) run-nil
 
   pub run-within : (bytes : List ℕ) → runLength test bytes ≤ length bytes
   run-within [] = rw run-nil zero-le
   run-within (b ∷ bytes) =
-      on-test (test b) refl (λ e. rw (run-in b bytes e) (suc-le-suc (run-within bytes))) (λ e. rw (run-out b bytes e) zero-le)
+      cases (test b) (λ e. rw (run-in b bytes e) (suc-le-suc (run-within bytes))) (λ e. rw (run-out b bytes e) zero-le)
 
   -- each byte of the run passes
-  pub run-passes : (bytes : List ℕ) (i : ℕ) → i < runLength test bytes → test (at bytes i) ≡ true
+  run-passes : (bytes : List ℕ) (i : ℕ) → i < runLength test bytes → test (at bytes i) ≡ true
   run-passes [] i h = absurd (not-suc-le-zero (subst (λ n. i < n) run-nil h))
-  run-passes (b ∷ bytes) zero h = on-test (test b) refl (λ e. e) (λ e. absurd (not-suc-le-zero (subst (λ n. 0 < n) (run-out b bytes e) h)))
+  run-passes (b ∷ bytes) zero h = cases (test b) (λ e. e) (λ e. absurd (not-suc-le-zero (subst (λ n. 0 < n) (run-out b bytes e) h)))
   run-passes (b ∷ bytes) (suc i) h =
-      on-test (test b) refl
+      cases (test b)
       (λ e. run-passes bytes i (le-of-suc-le-suc (subst (λ n. suc i < n) (run-in b bytes e) h)))
       (λ e. absurd (not-suc-le-zero (subst (λ n. suc i < n) (run-out b bytes e) h)))
 

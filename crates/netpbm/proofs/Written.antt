@@ -4,10 +4,11 @@ use mathlib.Core.List.{List, [], _∷_, _++_, append-assoc}
 use Prim.Native.Nat.{ℕ, zero, suc, _+_, _*_, _^_, _≤_, _<_}
 use native.Mathlib.Omega.{arith}
 use lib.ListN.{length, length-append}
+use Rattle.text.specs.Text.{ascii}
 use Rattle.text.specs.Decimal.{decimalWithin, decimal}
 use Rattle.text.proofs.Decimal.{decimal-means}
-use Rattle.netpbm.specs.Header.{areaLimit, headerText, writtenLimit}
-use Rattle.netpbm.specs.Grammar.{Parts, textOf, Numeral, IsHeader, WrittenHeadersFit}
+use Rattle.netpbm.specs.Header.{areaLimit, headerText, writtenLimit, WrittenHeadersFit}
+use Rattle.netpbm.specs.Grammar.{Parts, textOf, Numeral, IsHeader}
 use Rattle.netpbm.proofs.FieldTexts.{one-space}
 
 pub header-size : (width height : ℕ) → length (headerText width height) ≡ length (decimal width) + length (decimal height) + 9
@@ -42,8 +43,8 @@ pub written-headers-fit : WrittenHeadersFit
 written-headers-fit = header-short
 
 -- its parts
-abbrev pub written : ℕ → ℕ → Parts
-written width height = record {
+abbrev pub writtenParts : ℕ → ℕ → Parts
+writtenParts width height = record {
   beforeWidth = 10 ∷ [];
   width = decimal width;
   beforeHeight = 32 ∷ [];
@@ -57,10 +58,10 @@ largest-text : decimal 255 ≡ 50 ∷ 53 ∷ 53 ∷ []
 unfolding decimal decimalWithin
 largest-text = refl
 
-pub written-text : (width height : ℕ) → headerText width height ≡ textOf (written width height)
+pub written-text : (width height : ℕ) → headerText width height ≡ textOf (writtenParts width height)
 unfolding headerText
 written-text width height =
-    let front = (80 ∷ 54 ∷ 10 ∷ []) ++ decimal width ++ (32 ∷ []) ++ decimal height in
+    let front = ascii "P6\n" ++ decimal width ++ (32 ∷ []) ++ decimal height in
     ap (λ (digits : List ℕ). front ++ (10 ∷ (digits ++ (10 ∷ [])))) (sym largest-text)
     ∙ sym (append-assoc front (10 ∷ []) (decimal 255 ++ (10 ∷ [])))
     ∙ sym (append-assoc (front ++ (10 ∷ [])) (decimal 255) (10 ∷ []))
@@ -73,7 +74,7 @@ written-numeral n less = record {
   digits = decimal-means .digits n;
 }
 
-pub written-is-header : (width height : ℕ) → width < 10 ^ 5 → height < 10 ^ 5 → IsHeader (written width height)
+pub written-is-header : (width height : ℕ) → width < 10 ^ 5 → height < 10 ^ 5 → IsHeader (writtenParts width height)
 written-is-header width height narrow low =
     let widths = written-numeral width narrow in
     let heights = written-numeral height low in

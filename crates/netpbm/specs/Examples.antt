@@ -55,6 +55,7 @@ examples =
     ∷ (ascii "P6\n16384 1\n255\n" reads sized 16384 1 15)
     ∷ (ascii "P6\n16385 1\n255\n" reads OtherSize)
     ∷ (ascii "P6\n99999 99999\n255\n" reads OtherSize)
+    -- four pixels in 32 bits
     ∷ (ascii "P6\n50020 85865\n255\n" reads OtherSize)
     ∷ (ascii "P6\n00000 1\n00000\n" reads OtherLargest)
     ∷ (ascii "P6\n00000 1\n00000" reads Malformed)

@@ -7,7 +7,7 @@ use lib.ListN.{length}
 use Rattle.tables.specs.Table.{at}
 use Rattle.text.specs.Decimal.{Digits, value}
 use Rattle.text.specs.Text.{ascii}
-use Rattle.netpbm.specs.Header.{headerLimit, areaLimit, isSpace, judged, headerOf, headerText, writtenLimit}
+use Rattle.netpbm.specs.Header.{headerLimit, areaLimit, isSpace, judged, headerOf, headerText}
 use Rattle.netpbm.specs.declared.Reading.the-variants.{Accepted, Malformed}
 
 -- The parts of a header after its letters, in their order.
@@ -67,11 +67,6 @@ pub record ReadingIsTheGrammar : Type 0 where
   pub complete : (p : Parts) → IsHeader p → (samples : List ℕ)
       → headerOf (textOf p ++ samples) ≡ judged (value (p .width)) (value (p .height)) (value (p .largest)) (length (textOf p))
   pub sound : (file : List ℕ) → (headerOf file ≡ Malformed → ⊥) → HasHeader file
-
--- Claim: a written header is within its limit. Proved: proofs/Written.antt, `written-headers-fit`.
-abbrev pub WrittenHeadersFit : Type 0
-WrittenHeadersFit =
-    (width height : ℕ) → 0 < width * height → width * height ≤ areaLimit → length (headerText width height) ≤ writtenLimit
 
 -- Claim: reading what was written gives the same picture back. Proved: proofs/Grammar.antt, `written-is-read`.
 abbrev pub WrittenIsRead : Type 0

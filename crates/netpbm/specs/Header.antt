@@ -92,14 +92,19 @@ unfoldable pub headerText : ℕ → ℕ → List ℕ
 headerText width height =
     ascii "P6\n" ++ decimal width ++ ascii " " ++ decimal height ++ ascii "\n255\n"
 
--- The most bytes that it has: nine, and five digits for each side.
+-- It has at most so many bytes: nine, and five digits for each side.
 abbrev pub writtenLimit : ℕ
 writtenLimit = 19
 
--- What an accepted header keeps, in a file of so many bytes: its samples start within the file and right after a header of legal size, and
+-- Claim: so it has, for every legal size. Proved: proofs/Written.antt, `written-headers-fit`.
+abbrev pub WrittenHeadersFit : Type 0
+WrittenHeadersFit =
+    (width height : ℕ) → 0 < width * height → width * height ≤ areaLimit → length (headerText width height) ≤ writtenLimit
+
+-- What an accepted header keeps, in a file of this size: its samples start within the file and no later than a header may end, and
 -- "width times height is 1 to 16,384".
-pub record Fitting (header : Header) (file : ℕ) : Type 0 where
-  pub begins : header .start ≤ file
+pub record Fitting (header : Header) (size : ℕ) : Type 0 where
+  pub starts : header .start ≤ size
   pub short : header .start ≤ headerLimit
   pub some : 0 < header .width * header .height
   pub most : header .width * header .height ≤ areaLimit

@@ -7,6 +7,6 @@ use Rattle.netpbm.specs.declared.Class.{Class}
 use Rattle.netpbm.specs.declared.Class.the-variants.{Space, Digit}
 
 -- Whether a byte is of a class: white space, or a decimal digit.
-abbrev pub isOf : Class → ℕ → Bool
-isOf Space b = isSpace b
-isOf Digit b = isDigit b
+abbrev pub inClass : Class → ℕ → Bool
+inClass Space b = isSpace b
+inClass Digit b = isDigit b

@@ -1,10 +1,10 @@
 // The header of a Netpbm P6 image, read and written (document 01, "Frames from a file"). No other crate knows its form.
 ghost use mathlib.Core.Path.{_≡_};
-ghost use Prim.Native.Nat.{_+_, _*_, _≤_, _<_};
+ghost use Prim.Native.Nat.{_+_, _*_, _≤_};
 ghost use lib.ListN.{length, drop};
 ghost use Rattle.tables.specs.Table.{at};
 ghost use Rattle.text.specs.Text.{Writes};
-ghost use Rattle.netpbm.specs.Inner.{isOf};
+ghost use Rattle.netpbm.specs.Inner.{inClass};
 ghost use Rattle.netpbm.specs.Header.{isSpace, runLength, fieldAt, judged, hasLetters, headerIn, headerOf, numberOf, valuesOf, headerText};
 
 // A header has at most so many bytes.
@@ -77,8 +77,8 @@ fn byte_at(bytes: &[u8], place: usize) -> u8
 }
 
 // Whether a byte is of the class.
-fn is_of(class: Class, b: u8) -> bool
-    ensures { λ r. ⌜ r ≡ isOf class b ⌝ }
+fn in_class(class: Class, b: u8) -> bool
+    ensures { λ r. ⌜ r ≡ inClass class b ⌝ }
 {
     match class {
         Class::Space => is_space(b),
@@ -88,11 +88,11 @@ fn is_of(class: Class, b: u8) -> bool
 
 // The place after the bytes of the class that stand at `place`.
 fn run_end(class: Class, bytes: &[u8], place: usize) -> usize
-    ensures { λ r. ⌜ r ≡ place + runLength (isOf class) (drop place (now (bytes .entry))) ⌝ }
+    ensures { λ r. ⌜ r ≡ place + runLength (inClass class) (drop place (now (bytes .entry))) ⌝ }
 {
     let mut end = place;
     while end < bytes.len() {
-        if !is_of(class, bytes[end]) {
+        if !in_class(class, bytes[end]) {
             return end;
         }
         end += 1;

@@ -4,7 +4,7 @@ use mathlib.Core.List.{List, [], _∷_, _++_, map, append-nil, List·Memᴰ·not
 use mathlib.Core.Logic.{⊎-elim}
 use Prim.Native.Nat.{ℕ, _-_}
 use native.Mathlib.Omega.{arith}
-use lib.ListN.{length, length-append}
+use lib.ListN.{length}
 use lib.Seq.{getD-drop}
 use Rattle.tables.specs.Table.{_among_}
 use Rattle.pixel.specs.Strip.{Bytes}
@@ -20,16 +20,14 @@ use Rattle.netpbm.specs.declared.Reading.the-variants.{Accepted}
 use Rattle.netpbm.proofs.Grammar.{written-is-read}
 use Rattle.still.specs.Agreement.{callsOf, bytesLeft, FollowsShot, FilesFollowShots, AnswersAreFiles}
 use Rattle.still.specs.Still.{fileChoice, fileMethod, balanced, picture, samplesDue, Legal, fileHeader, fileSamples, answer}
-use Rattle.still.proofs.Answers.{legal-fits, legal-exact, legal-answer, is-legal}
-use Rattle.still.proofs.Samples.{legal-shot, balanced-length}
+use Rattle.still.proofs.Answers.{legal-fits, legal-shot, legal-answer, legal-size, is-legal}
 
 module _ (file : List ℕ) (legal : Legal file) where
   abbrev samples : List ℕ
   samples = fileSamples file
 
-  -- its samples make a whole shot
-  shot : WholeShot (length samples) fileChoice
-  shot = legal-shot _ _ (legal-exact file legal) (legal-fits file legal .some) (legal-fits file legal .most)
+  abbrev shot : WholeShot (length samples) fileChoice
+  shot = legal-shot file legal
 
   module _ (bytes : Bytes file) (destination : List ℕ) (same : length destination ≡ length samples) where
     -- its samples are bytes
@@ -93,15 +91,7 @@ module _ (file : List ℕ) (legal : Legal file) where
       ∙ written-is-read _ _ (legal-fits file legal .some) (legal-fits file legal .most) (balanced samples)
 
   answer-exact : length (answer file) - written-header .start ≡ samplesDue written-header
-  unfolding picture
-  answer-exact =
-      omega (
-        arith,
-        ap length (legal-answer file legal),
-        length-append (headerText (fileHeader file .width) (fileHeader file .height)) (balanced samples),
-        balanced-length samples (shot .whole),
-        legal-exact file legal,
-      )
+  answer-exact = omega (arith, legal-size file legal)
 
   answer-header : fileHeader (answer file) ≡ written-header
   answer-header = ap valuesOf answer-reads

@@ -1,24 +1,26 @@
 -- The answer to a file, case by case.
-use mathlib.Core.Path.{_≡_, refl, sym, ap₂, _∙_}
+use mathlib.Core.Path.{_≡_, refl, sym, ap, ap₂, _∙_}
 use mathlib.Core.Bool.{Bool, true, false, not, cond}
 use mathlib.Core.List.{List}
-use Prim.Native.Nat.{ℕ, _-_, _≤_, _<_, zero-le}
+use Prim.Native.Nat.{ℕ, _+_, _-_, _≤_, _<_, zero-le}
 use native.Mathlib.Nat.{zero-add}
 use native.Mathlib.Omega.{arith}
 use borrow.Author.Tests.{eq-eqb, ne-eqb, eqb-true, eqb-false, lt-ltb, le-ltb, ltb-false}
 use lib.Dec.{ltb, eqb}
-use lib.ListN.{length, length-drop}
+use lib.ListN.{length, length-append, length-drop}
 use Rattle.refusal.specs.Refusal.{firstOf}
 use Rattle.refusal.proofs.Laws.{passed}
 use Rattle.text.specs.Text.{Writes}
-use Rattle.netpbm.specs.Header.{headerOf, numberOf, valuesOf, Fitting}
+use Rattle.shot.specs.Inner.{WholeShot}
+use Rattle.netpbm.specs.Header.{headerOf, numberOf, valuesOf, headerText, Fitting}
 use Rattle.netpbm.specs.declared.Header.{Header}
 use Rattle.netpbm.specs.declared.Reading.{Reading}
 use Rattle.netpbm.specs.declared.Reading.the-variants.{Accepted, Malformed, OtherLargest, OtherSize}
 use Rattle.netpbm.proofs.Accepted.{accepted-headers-fit}
 use Rattle.netpbm.proofs.Readings.{accepted-is}
 use Rattle.still.specs.Inner.{Readable}
-use Rattle.still.specs.Still.{picture, refusalLine, samplesDue, sampleChecks, fileChecks, fileNumber, Legal, fileHeader, fileSamples, answer, outputLimit, outcome}
+use Rattle.still.proofs.Samples.{whole-shot, balanced-length}
+use Rattle.still.specs.Still.{fileChoice, balanced, picture, refusalLine, samplesDue, sampleChecks, fileChecks, fileNumber, Legal, fileHeader, fileSamples, answer, outputLimit, outcome}
 
 -- every header that was read keeps what the checks lean on
 pub file-readable : (file : List ℕ) → Readable (fileHeader file) (length file)
@@ -27,7 +29,7 @@ file-readable file = go (headerOf file) refl
     go : (reading : Reading) → headerOf file ≡ reading → Readable (valuesOf reading) (length file)
     go (Accepted header) reads =
         let fits = accepted-headers-fit file header reads in
-        record { starts = fits .begins; most = fits .most }
+        record { starts = fits .starts; most = fits .most }
     go Malformed reads = record { starts = zero-le; most = zero-le }
     go OtherLargest reads = record { starts = zero-le; most = zero-le }
     go OtherSize reads = record { starts = zero-le; most = zero-le }
@@ -62,7 +64,7 @@ module _ (file : List ℕ) (legal : Legal file) where
   checks = file-passed (numberOf (headerOf file)) _ legal
 
   -- its header is accepted
-  pub legal-reads : headerOf file ≡ Accepted (fileHeader file)
+  legal-reads : headerOf file ≡ Accepted (fileHeader file)
   legal-reads = accepted-is (headerOf file) (checks .0)
 
   pub legal-fits : Fitting (fileHeader file) (length file)
@@ -72,10 +74,25 @@ module _ (file : List ℕ) (legal : Legal file) where
   pub legal-exact : length (fileSamples file) ≡ samplesDue (fileHeader file)
   legal-exact = length-drop (fileHeader file .start) file ∙ checks-passed (samplesDue (fileHeader file)) _ (checks .1)
 
+  -- so they make a whole shot
+  pub legal-shot : WholeShot (length (fileSamples file)) fileChoice
+  legal-shot = whole-shot _ _ legal-exact (legal-fits .some) (legal-fits .most)
+
   -- and its answer is a picture
   pub legal-answer : answer file ≡ picture (fileHeader file .width) (fileHeader file .height) (fileSamples file)
   unfolding answer
   legal-answer = rw (eq-eqb (fileNumber file) 0 legal) refl
+
+  pub legal-size : length (answer file) ≡ length (headerText (fileHeader file .width) (fileHeader file .height)) + samplesDue (fileHeader file)
+  unfolding picture
+  legal-size =
+      omega (
+        arith,
+        ap length legal-answer,
+        length-append (headerText (fileHeader file .width) (fileHeader file .height)) (balanced (fileSamples file)),
+        balanced-length (fileSamples file) (legal-shot .whole),
+        legal-exact,
+      )
 
 -- a header that is accepted, with exactly the samples due, makes a legal file
 pub is-legal : (file : List ℕ) (header : Header) → headerOf file ≡ Accepted header → length file - header .start ≡ samplesDue header → Legal file

@@ -2,12 +2,12 @@
 use mathlib.Core.Path.{_≡_, refl, sym, ap, subst, _∙_}
 use mathlib.Core.Bool.{Bool, true, false, cond}
 use mathlib.Core.List.{List}
-use Prim.Native.Nat.{ℕ, _+_, _-_, _*_, _≤_, _<_, zero-le}
+use Prim.Native.Nat.{ℕ, _+_, _-_, _≤_, _<_, zero-le}
 use native.Mathlib.Nat.{le-of-lt}
 use native.Mathlib.Omega.{arith}
 use borrow.Author.Tests.{lt-ltb, le-ltb, ltb-false}
 use lib.Dec.{ltb}
-use lib.ListN.{length, take, length-append, length-drop}
+use lib.ListN.{length, take, length-drop}
 use lib.Seq.{take-all, take-take, length-take-le}
 use Rattle.refusal.specs.Refusal.{firstOf}
 use Rattle.refusal.proofs.Laws.{either-leaves}
@@ -15,24 +15,23 @@ use Rattle.tables.proofs.Cases.{either}
 use Rattle.text.specs.Text.{writtenAt}
 use Rattle.text.specs.Decimal.{valueAfter}
 use Rattle.text.proofs.Runs.{length-written}
-use Rattle.netpbm.specs.Header.{headerLimit, runLength, fieldAt, headerIn, headerOf, numberOf, headerText}
+use Rattle.netpbm.specs.Header.{headerLimit, runLength, fieldAt, headerIn, headerOf, numberOf}
 use Rattle.netpbm.specs.declared.Reading.{Reading}
 use Rattle.netpbm.specs.declared.Reading.the-variants.{Accepted, Malformed, OtherLargest, OtherSize}
 use Rattle.netpbm.proofs.Accepted.{accepted-headers-fit}
 use Rattle.netpbm.proofs.Written.{written-headers-fit}
 use Rattle.still.specs.Limits.{inputLimit, largestFile, OneByteMore, FirstBytesAreEnough, AnswersFit}
-use Rattle.still.specs.Still.{balanced, picture, refusalLine, samplesDue, fileChecks, fileNumber, Legal, fileHeader, fileSamples, answer, outputLimit, Outcome, outcome}
-use Rattle.still.proofs.Answers.{legal-fits, legal-exact, is-legal, refused-answer}
-use Rattle.still.proofs.Samples.{legal-shot, balanced-length}
+use Rattle.still.specs.Still.{picture, refusalLine, samplesDue, fileChecks, fileNumber, Legal, fileHeader, fileSamples, answer, outputLimit, Outcome, outcome}
+use Rattle.still.proofs.Answers.{legal-fits, legal-exact, legal-answer, legal-size, is-legal, refused-answer}
 use Rattle.still.proofs.Sizes.{refusal-short, number-small}
 
 -- a legal file is its header and its samples
-legal-size : (file : List ℕ) → Legal file → length file ≡ fileHeader file .start + samplesDue (fileHeader file)
-legal-size file legal =
-    omega (arith, legal-fits file legal .begins, legal-exact file legal, length-drop (fileHeader file .start) file)
+file-size : (file : List ℕ) → Legal file → length file ≡ fileHeader file .start + samplesDue (fileHeader file)
+file-size file legal =
+    omega (arith, legal-fits file legal .starts, legal-exact file legal, length-drop (fileHeader file .start) file)
 
 legal-within : (file : List ℕ) → Legal file → length file < inputLimit
-legal-within file legal = omega (arith, legal-size file legal, legal-fits file legal .short, legal-fits file legal .most)
+legal-within file legal = omega (arith, file-size file legal, legal-fits file legal .short, legal-fits file legal .most)
 
 largest-size : length largestFile + 1 ≡ inputLimit
 unfolding largestFile
@@ -50,41 +49,41 @@ one-byte-more = record {
 }
 
 -- the number for a file with more bytes than are read
-abbrev past : Reading → ℕ
-past (Accepted header) = 16
-past Malformed = numberOf Malformed
-past OtherLargest = numberOf OtherLargest
-past OtherSize = numberOf OtherSize
+abbrev overlongNumber : Reading → ℕ
+overlongNumber (Accepted header) = 16
+overlongNumber Malformed = numberOf Malformed
+overlongNumber OtherLargest = numberOf OtherLargest
+overlongNumber OtherSize = numberOf OtherSize
 
-past-refuses : (reading : Reading) → past reading ≡ 0 → ⊥
-past-refuses (Accepted header) e = omega arith
-past-refuses Malformed e = omega arith
-past-refuses OtherLargest e = omega arith
-past-refuses OtherSize e = omega arith
+overlong-refuses : (reading : Reading) → overlongNumber reading ≡ 0 → ⊥
+overlong-refuses (Accepted header) e = omega arith
+overlong-refuses Malformed e = omega arith
+overlong-refuses OtherLargest e = omega arith
+overlong-refuses OtherSize e = omega arith
 
 module _ (file : List ℕ) where
   -- however many those are
-  past-number : (reading : Reading) (size : ℕ) → headerOf file ≡ reading → inputLimit ≤ size → firstOf (fileChecks reading size) ≡ past reading
-  past-number (Accepted header) size reads many =
+  overlong-number : (reading : Reading) (size : ℕ) → headerOf file ≡ reading → inputLimit ≤ size → firstOf (fileChecks reading size) ≡ overlongNumber reading
+  overlong-number (Accepted header) size reads many =
       let fits = accepted-headers-fit file header reads in
       let more : samplesDue header < size - header .start = omega (arith, fits .short, fits .most) in
       rw (le-ltb _ _ (le-of-lt more), lt-ltb _ _ more) refl
-  past-number Malformed size reads many = refl
-  past-number OtherLargest size reads many = refl
-  past-number OtherSize size reads many = refl
+  overlong-number Malformed size reads many = refl
+  overlong-number OtherLargest size reads many = refl
+  overlong-number OtherSize size reads many = refl
 
-  past-answer : (begin : List ℕ) → headerOf begin ≡ headerOf file → inputLimit ≤ length begin → answer begin ≡ refusalLine (past (headerOf file))
+  overlong-answer : (begin : List ℕ) → headerOf begin ≡ headerOf file → inputLimit ≤ length begin → answer begin ≡ refusalLine (overlongNumber (headerOf file))
   unfolding fileNumber
-  past-answer begin same many =
-      let number : fileNumber begin ≡ past (headerOf file) =
-      ap (λ (r : Reading). firstOf (fileChecks r (length begin))) same ∙ past-number (headerOf file) (length begin) refl many in
-      refused-answer begin (λ e. past-refuses (headerOf file) (sym number ∙ e)) ∙ ap refusalLine number
+  overlong-answer begin same many =
+      let number : fileNumber begin ≡ overlongNumber (headerOf file) =
+      ap (λ (r : Reading). firstOf (fileChecks r (length begin))) same ∙ overlong-number (headerOf file) (length begin) refl many in
+      refused-answer begin (λ e. overlong-refuses (headerOf file) (sym number ∙ e)) ∙ ap refusalLine number
 
   same-answer : inputLimit < length file → answer (take inputLimit file) ≡ answer file
   same-answer many =
-      past-answer (take inputLimit file) (ap headerIn (take-take headerLimit inputLimit file (omega arith)))
+      overlong-answer (take inputLimit file) (ap headerIn (take-take headerLimit inputLimit file (omega arith)))
       (omega (arith, length-take-le inputLimit file (le-of-lt many)))
-      ∙ sym (past-answer file refl (le-of-lt many))
+      ∙ sym (overlong-answer file refl (le-of-lt many))
 
 pub first-bytes-are-enough : FirstBytesAreEnough
 first-bytes-are-enough file =
@@ -92,20 +91,17 @@ first-bytes-are-enough file =
 
 -- an answer is a picture that fits, or a short line
 pub answers-fit : AnswersFit
-unfolding answer picture fileNumber
+unfolding answer fileNumber
 answers-fit file =
     either-leaves (fileNumber file) (picture (fileHeader file .width) (fileHeader file .height) (fileSamples file)) (refusalLine (fileNumber file))
     (λ (l : List ℕ). length l ≤ outputLimit)
     (λ legal.
     let fits = legal-fits file legal in
-    let exact = legal-exact file legal in
-    let shot = legal-shot (fileHeader file .width * fileHeader file .height) (length (fileSamples file)) exact (fits .some) (fits .most) in
     omega (
       arith,
-      length-append (headerText (fileHeader file .width) (fileHeader file .height)) (balanced (fileSamples file)),
       written-headers-fit (fileHeader file .width) (fileHeader file .height) (fits .some) (fits .most),
-      balanced-length (fileSamples file) (shot .whole),
-      exact,
+      ap length (legal-answer file legal),
+      legal-size file legal,
       fits .most,
     ))
     (omega (arith, refusal-short (fileNumber file) (number-small (headerOf file) (length file))))

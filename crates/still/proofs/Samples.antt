@@ -6,7 +6,7 @@ use Prim.Native.Nat.{ℕ, _+_, _-_, _*_, _%_, _≤_, _<_}
 use native.Mathlib.Omega.{arith}
 use borrow.Author.Tests.{eq-eqb}
 use lib.ListN.{length, take, drop, length-drop}
-use lib.Seq.{take-all, length-take-le}
+use lib.Seq.{length-take-le}
 use Rattle.pixel.specs.Methods.{methodOf}
 use Rattle.pixel.specs.Strip.{isWhole}
 use Rattle.colouring.proofs.Written.{coloured-length}
@@ -16,12 +16,12 @@ use Rattle.netpbm.specs.Header.{areaLimit}
 use Rattle.still.specs.Still.{fileChoice, fileMethod, balanced}
 
 -- three samples to a pixel are whole pixels
-pub threes-whole : (n : ℕ) → isWhole (3 * n) ≡ true
+threes-whole : (n : ℕ) → isWhole (3 * n) ≡ true
 threes-whole n = eq-eqb (3 * n % 3) 0 (omega arith)
 
 -- the samples of a picture of legal size make a whole shot
-pub legal-shot : (area samples : ℕ) → samples ≡ 3 * area → 0 < area → area ≤ areaLimit → WholeShot samples fileChoice
-legal-shot area samples exact some most =
+pub whole-shot : (area samples : ℕ) → samples ≡ 3 * area → 0 < area → area ≤ areaLimit → WholeShot samples fileChoice
+whole-shot area samples exact some most =
     record { known = refl; whole = rw exact (threes-whole area); some = omega arith; limit = omega arith }
 
 -- coloured samples are as many
@@ -33,7 +33,3 @@ balanced-length samples whole = coloured-length (methodOf fileMethod) (curveOf f
 pub part-length : (first n : ℕ) (run : List ℕ) → first + n ≤ length run → length (take (first + n - first) (drop first run)) ≡ n
 part-length first n run fits =
     length-take-le (first + n - first) (drop first run) (omega (arith, length-drop first run)) ∙ omega arith
-
--- the part from a place on
-pub part-from : (first : ℕ) (run : List ℕ) → take (length run - first) (drop first run) ≡ drop first run
-part-from first run = take-all (length run - first) (drop first run) (omega (arith, length-drop first run))

@@ -1,17 +1,16 @@
 -- How long the answers are.
 use mathlib.Core.Path.{_≡_}
-use mathlib.Core.Bool.{Bool, true, false, cond, not}
-use Prim.Native.Nat.{ℕ, _+_, _-_, _≤_, _<_}
+use Prim.Native.Nat.{ℕ, _+_, _≤_, _<_}
 use native.Mathlib.Omega.{arith}
-use lib.Dec.{ltb, eqb}
 use lib.ListN.{length, length-append}
 use Rattle.refusal.specs.Refusal.{firstOf}
+use Rattle.refusal.proofs.Laws.{first-keeps}
 use Rattle.text.specs.Decimal.{decimal}
 use Rattle.text.proofs.Decimal.{decimal-means}
-use Rattle.netpbm.specs.Header.{numberOf, valuesOf}
+use Rattle.netpbm.specs.Header.{numberOf}
 use Rattle.netpbm.specs.declared.Reading.{Reading}
 use Rattle.netpbm.specs.declared.Reading.the-variants.{Accepted, Malformed, OtherLargest, OtherSize}
-use Rattle.still.specs.Still.{refusalLine, samplesDue, fileChecks}
+use Rattle.still.specs.Still.{refusalLine, fileChecks}
 
 pub refusal-size : (number : ℕ) → length (refusalLine number) ≡ length (decimal number) + 9
 unfolding refusalLine
@@ -31,16 +30,5 @@ reading-small OtherSize = omega arith
 
 -- and all of them
 pub number-small : (reading : Reading) (size : ℕ) → firstOf (fileChecks reading size) < 100
-number-small reading size = go (not (eqb (numberOf reading) 0)) (ltb present due) (ltb due present)
-  where
-    due : ℕ
-    due = samplesDue (valuesOf reading)
-
-    present : ℕ
-    present = size - valuesOf reading .start
-
-    go : (header few many : Bool) → cond header (numberOf reading) (cond few 15 (cond many 16 0)) < 100
-    go true few many = reading-small reading
-    go false true many = omega arith
-    go false false true = omega arith
-    go false false false = omega arith
+number-small reading size =
+    first-keeps (λ n. n < 100) (fileChecks reading size) (reading-small reading, (omega arith, (omega arith, tt))) (omega arith)

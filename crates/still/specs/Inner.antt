@@ -18,7 +18,7 @@ pub record Writable (width height samples output : ℕ) : Type 0 where
   pub most : width * height ≤ areaLimit
   pub room : outputLimit ≤ output
 
--- What every header that was read keeps in a file of so many bytes, refused ones too (they say 0).
-pub record Readable (header : Header) (file : ℕ) : Type 0 where
-  pub starts : header .start ≤ file
+-- What every header that was read keeps in a file of this size, refused ones too (they say 0).
+pub record Readable (header : Header) (size : ℕ) : Type 0 where
+  pub starts : header .start ≤ size
   pub most : header .width * header .height ≤ areaLimit

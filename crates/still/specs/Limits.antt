@@ -15,7 +15,7 @@ inputLimit = headerLimit + 3 * areaLimit + 1
 unfoldable pub largestFile : List ℕ
 largestFile = ascii "P6" ++ replicate 50 32 ++ ascii "128 128\n255\n" ++ replicate (3 * areaLimit) 0
 
--- Claim: that is one byte more than the largest legal file. Proved: proofs/Limits.antt, `one-byte-more`.
+-- Claim: `inputLimit` is one byte more than the largest legal file has. Proved: proofs/Limits.antt, `one-byte-more`.
 pub record OneByteMore : Type 0 where
   pub within : (file : List ℕ) → Legal file → length file < inputLimit
   pub legal : Legal largestFile

@@ -1,6 +1,6 @@
 // The whole job of one still picture (document 01, "Frames from a file"): from the bytes of a file to the bytes to write.
 ghost use mathlib.Core.Path.{_≡_};
-ghost use Prim.Native.Nat.{_+_, _≤_};
+ghost use Prim.Native.Nat.{_≤_};
 ghost use lib.ListN.{length, replicate};
 ghost use Rattle.refusal.specs.Refusal.{firstOf};
 ghost use Rattle.text.specs.Text.{Writes};

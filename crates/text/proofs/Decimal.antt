@@ -35,7 +35,7 @@ digits-more digits d small all i less =
     (eq-or-lt-of-le (omega (arith, length-append digits ((zeroCode + d) ∷ []))))
 
 -- one more digit at the end: ten times the number, and the digit's
-pub value-more : (before : ℕ) (digits : List ℕ) (d : ℕ)
+value-more : (before : ℕ) (digits : List ℕ) (d : ℕ)
     → valueAfter before (digits ++ (d ∷ [])) ≡ 10 * valueAfter before digits + (d - zeroCode)
 unfolding valueAfter
 value-more before [] d = refl

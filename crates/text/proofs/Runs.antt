@@ -5,7 +5,7 @@ use Prim.Native.Nat.{ℕ, suc, _+_, _-_, _≤_, _<_}
 use native.Mathlib.Numerals.{add-one}
 use native.Mathlib.Omega.{arith}
 use lib.ListN.{length, take, drop, set, length-append, length-drop}
-use lib.Seq.{length-take-le, take-suc, take-all, take-at, drop-append-add, drop-drop, append-snoc, set-split, paste-zero}
+use lib.Seq.{length-take-le, take-length, take-at, drop-append-add, drop-drop, append-snoc, set-split, paste, paste-zero, paste-suc, length-paste}
 use borrow.Rule.Slice.PartMut.{putMid, postOf, post-is}
 use Rattle.tables.specs.Table.{at}
 use Rattle.text.specs.Text.{writtenAt, Writes}
@@ -15,7 +15,7 @@ pub written-nothing : (place : ℕ) (run : List ℕ) → run ≡ writtenAt place
 written-nothing place run = paste-zero run place []
 
 -- a byte stored is a text of one byte
-pub stored-is-written : (place byte : ℕ) (run : List ℕ) → place < length run → set run place byte ≡ writtenAt place (byte ∷ []) run
+stored-is-written : (place byte : ℕ) (run : List ℕ) → place < length run → set run place byte ≡ writtenAt place (byte ∷ []) run
 stored-is-written place byte run room =
     set-split run place byte room
     ∙ sym (append-snoc (take place run) byte (drop (suc place) run))
@@ -26,7 +26,7 @@ module _ (place : ℕ) (text run : List ℕ) where
   length-written fits = simp (length-append, length-drop) (omega (arith, length-take-le place run (omega arith)))
 
   -- text, and then more text after it, is the joined text
-  pub written-more : (more : List ℕ) → place ≤ length run
+  written-more : (more : List ℕ) → place ≤ length run
       → writtenAt (place + length text) more (writtenAt place text run) ≡ writtenAt place (text ++ more) run
   written-more more fits =
       let end = place + length text in
@@ -51,35 +51,39 @@ module _ (place : ℕ) (text run : List ℕ) where
 module _ (place : ℕ) (text run : List ℕ) where
   pub record WrittenTo (count : ℕ) (output : List ℕ) : Type 0 where
     pub within : count ≤ length text
-    pub written : output ≡ writtenAt place (take count text) run
+    pub written : output ≡ paste run place text count
 
   pub written-start : WrittenTo 0 run
-  written-start = record { within = omega arith; written = written-nothing place run }
+  written-start = record { within = omega arith; written = paste-zero run place text }
 
   module _ {count : ℕ} {output : List ℕ} (fits : place + length text ≤ length run) (sofar : WrittenTo count output) where
-    part : place + length (take count text) ≡ place + count
-    part = ap (λ (n : ℕ). place + n) (length-take-le count text (sofar .within))
-
     pub kept-so-far : length output ≡ length run
-    kept-so-far =
-        ap length (sofar .written) ∙ length-written place (take count text) run (omega (arith, part, sofar .within))
+    kept-so-far = ap length (sofar .written) ∙ length-paste run place text count (omega (arith, sofar .within)) (sofar .within)
 
     pub written-byte : count < length text → WrittenTo (count + 1) (set output (place + count) (at text count))
     written-byte less = record {
       within = omega arith;
       written =
-          ap₂ (λ (o : List ℕ) (n : ℕ). set o n (at text count)) (sofar .written) (sym part)
-          ∙ written-next place (take count text) run (at text count) (omega (arith, part))
-          ∙ ap (λ (t : List ℕ). writtenAt place t run) (sym (take-suc text count 0 less) ∙ ap (λ (n : ℕ). take n text) (sym (add-one count)));
+          ap (λ (o : List ℕ). set o (place + count) (at text count)) (sofar .written)
+          ∙ paste-suc run place text count 0 (omega arith) less
+          ∙ ap (paste run place text) (sym (add-one count));
     }
 
     pub written-end : length text ≤ count → output ≡ writtenAt place text run
-    written-end past = sofar .written ∙ ap (λ (t : List ℕ). writtenAt place t run) (take-all count text past)
+    written-end past =
+        let all : count ≡ length text = omega (arith, sofar .within) in
+        sofar .written
+        ∙ ap (paste run place text) all
+        ∙ ap (λ (t : List ℕ). take place run ++ t ++ drop (place + length text) run) (take-length text)
 
 -- Pieces of text, written one after the other.
 module _ {place end : ℕ} {text run output : List ℕ} (wrote : Writes place text run end output) where
-  pub writes-length : end ≤ length run → length output ≡ length run
+  writes-length : end ≤ length run → length output ≡ length run
   writes-length fits = ap length (wrote .holds) ∙ length-written place text run (omega (arith, wrote .ends))
+
+  -- so there is room after the text for n bytes more
+  pub writes-room : (n : ℕ) → end + n ≤ length run → end + n ≤ length output
+  writes-room n fits = omega (arith, fits, writes-length (omega (arith, fits)))
 
   pub writes-more : {more : List ℕ} {next : ℕ} {output′ : List ℕ} → place ≤ length run → Writes end more output next output′
       → Writes place (text ++ more) run next output′

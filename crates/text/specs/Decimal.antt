@@ -38,7 +38,7 @@ decimalWithin (suc most) n = cond (ltb n 10) ((zeroCode + n) ∷ []) (decimalWit
 unfoldable pub decimal : ℕ → List ℕ
 decimal n = decimalWithin 20 n
 
--- Claim: so `decimal` is what its comment says. Proved: proofs/Decimal.antt, `decimal-means`.
+-- Claim: `decimal` is what its comment says. Proved: proofs/Decimal.antt, `decimal-means`.
 pub record DecimalMeans : Type 0 where
   pub digits : (n : ℕ) → Digits (decimal n)
   pub some : (n : ℕ) → 0 < length (decimal n)

@@ -1,4 +1,4 @@
-// Text in lent runs of bytes: decimal numbers, read and written.
+// Text in lent runs of bytes; decimal numbers, read and written.
 ghost use mathlib.Core.Path.{_≡_};
 ghost use mathlib.Core.Bool.{true};
 ghost use Prim.Native.Nat.{_+_, _-_, _≤_, _<_};

@@ -9,6 +9,7 @@ use Rattle.tables.specs.Table.{at}
 use Rattle.netpbm.specs.Header.{isSpace, fieldAt, judged, hasLetters, headerIn}
 use Rattle.netpbm.specs.declared.Field.the-variants.{Number}
 use Rattle.netpbm.specs.declared.Reading.the-variants.{Malformed}
+use Rattle.netpbm.proofs.Fields.{last-decides}
 use Rattle.netpbm.proofs.Bytes.{space-within}
 use Rattle.netpbm.proofs.read_within.Statement.{statement}
 use Rattle.netpbm.proofs.read_within.Tie as tie
@@ -96,17 +97,11 @@ numbers-are : (c : tie.After-largest) → let heights = c .before .before .befor
     let end = c .largest .given .0 .1 .0 in
     headerIn bytes
     ≡ cond (isSpace (at bytes end)) (judged (widths .width .given .0 .0) (heights .height .given .0 .0) (c .largest .given .0 .0) (end + 1)) Malformed
-unfolding headerIn
 numbers-are c =
     let heights = c .before .before .before .before in
     let widths = heights .before .before .before .before in
-    rw (
-      letters (widths .before .before .before),
-      width-is widths,
-      height-is heights,
-      sym (c .before .before .read-field3 .ensures) ∙ c .largest .given .1,
-    )
-    refl
+    last-decides _ _ _ _ _ _ _ (letters (widths .before .before .before)) (width-is widths) (height-is heights)
+    (sym (c .before .before .read-field3 .ensures) ∙ c .largest .given .1)
 
 byte-at-requires : tie.Need-byte-at-requires
 byte-at-requires c κs = search needs

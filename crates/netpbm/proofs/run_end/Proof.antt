@@ -3,14 +3,14 @@ use mathlib.Core.Path.{refl, sym, _∙_}
 use borrow.Author.Tests.{not-true, not-false}
 use Prim.Native.Nat.{_-_}
 use lib.ListN.{length}
-use Rattle.netpbm.specs.Inner.{isOf}
+use Rattle.netpbm.specs.Inner.{inClass}
 use Rattle.netpbm.proofs.Runs.{Running, running-more, running-stop, running-end}
 use borrow.Author.Needs.{needs}
 use Rattle.netpbm.proofs.run_end.Statement.{statement}
 use Rattle.netpbm.proofs.run_end.Tie as tie
 
 abbrev Inv-loop : tie.InvT-loop
-Inv-loop class bytes place end₀ end = Running (isOf class) bytes place end
+Inv-loop class bytes place end₀ end = Running (inClass class) bytes place end
 
 abbrev μ-loop : tie.MeasureT-loop
 μ-loop class bytes place end₀ end = length bytes - end
@@ -18,16 +18,16 @@ abbrev μ-loop : tie.MeasureT-loop
 loop-holds : tie.Need-loop-holds Inv-loop μ-loop
 loop-holds c = refl
 
-shared-slice-read-is-of : tie.Need-shared-slice-read-is-of Inv-loop μ-loop
-shared-slice-read-is-of c = search needs
+shared-slice-read-in-class : tie.Need-shared-slice-read-in-class Inv-loop μ-loop
+shared-slice-read-in-class c = search needs
 
-is-of-requires : tie.Need-is-of-requires Inv-loop μ-loop
-is-of-requires c κs = search needs
+in-class-requires : tie.Need-in-class-requires Inv-loop μ-loop
+in-class-requires c κs = search needs
 
 returns : tie.Need-returns Inv-loop μ-loop
 returns c =
     let looping = c .before .before .before in
-    running-stop _ _ _ _ (looping .before .loop .inv) (looping .loop-test .taken) (sym (c .before .is-of .ensures) ∙ not-true _ (c .if1 .taken))
+    running-stop _ _ _ _ (looping .before .loop .inv) (looping .loop-test .taken) (sym (c .before .in-class .ensures) ∙ not-true _ (c .if1 .taken))
 
 add-end : tie.Need-add-end Inv-loop μ-loop
 add-end c = search needs
@@ -38,7 +38,7 @@ loop-less c = search needs
 loop-again : tie.Need-loop-again Inv-loop μ-loop
 loop-again c =
     let looping = c .before .before .before in
-    running-more _ _ _ _ (looping .before .loop .inv) (looping .loop-test .taken) (sym (c .before .is-of .ensures) ∙ not-false _ (c .if1 .left))
+    running-more _ _ _ _ (looping .before .loop .inv) (looping .loop-test .taken) (sym (c .before .in-class .ensures) ∙ not-false _ (c .if1 .left))
 
 returns-2 : tie.Need-returns-2 Inv-loop μ-loop
 returns-2 c = running-end _ _ _ _ (c .before .loop .inv) (c .loop-test .left)
@@ -50,8 +50,8 @@ run-end-spec =
     Inv-loop
     μ-loop
     loop-holds
-    shared-slice-read-is-of
-    is-of-requires
+    shared-slice-read-in-class
+    in-class-requires
     returns
     add-end
     loop-less

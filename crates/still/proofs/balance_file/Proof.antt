@@ -4,6 +4,7 @@ use mathlib.Core.List.{List}
 use Prim.Native.Nat.{ℕ, _-_, _≤_, _<_}
 use native.Mathlib.Omega.{arith}
 use borrow.Author.Needs.{needs}
+use borrow.Rule.Slice.PartAt.{part-to-end}
 use lib.ListN.{length, take, drop}
 use Rattle.refusal.specs.Refusal.{firstOf}
 use Rattle.text.specs.Text.{Writes}
@@ -13,7 +14,6 @@ use Rattle.netpbm.specs.declared.Reading.{Reading}
 use Rattle.still.specs.Inner.{Writable, Readable}
 use Rattle.still.specs.Still.{picture, refusalLine, fileChecks, fileNumber, Legal, fileHeader}
 use Rattle.still.proofs.Answers.{file-readable, legal-fits, legal-exact, legal-answer, refused-answer, short-outcome, answer-outcome}
-use Rattle.still.proofs.Samples.{part-from}
 use Rattle.still.proofs.Sizes.{refusal-short, number-small}
 use Rattle.still.proofs.balance_file.Statement.{statement}
 use Rattle.still.proofs.balance_file.Tie as tie
@@ -92,7 +92,7 @@ write-picture-requires c κs =
     Writable (header .width) (header .height) (length (take (length file - header .start) (drop (header .start) file))) (length (start .args .output .now)))
     (sym (header-is values))
     (record {
-      exact = ap length (part-from (fileHeader file .start) file) ∙ legal-exact file (legal (values .before));
+      exact = ap length (part-to-end file (fileHeader file .start)) ∙ legal-exact file (legal (values .before));
       some = fits .some;
       most = fits .most;
       room = values .before .before .before .before .if1 .left;
@@ -110,7 +110,7 @@ returns-3 c =
     answer-outcome file _ _ _ (values .before .before .before .before .if1 .left)
     (subst (λ (text : List ℕ). Writes 0 text (start .args .output .now) (writing .write-picture .result) (writing .write-picture .last .1 .1 .1 .0))
     (ap (λ (header : Header). picture (header .width) (header .height) (take (length file - header .start) (drop (header .start) file))) (header-is values)
-    ∙ ap (picture (fileHeader file .width) (fileHeader file .height)) (part-from (fileHeader file .start) file)
+    ∙ ap (picture (fileHeader file .width) (fileHeader file .height)) (part-to-end file (fileHeader file .start))
     ∙ sym (legal-answer file (legal (values .before))))
     (writing .write-picture .ensures))
 

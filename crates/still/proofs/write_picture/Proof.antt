@@ -7,11 +7,10 @@ use borrow.Author.Needs.{needs}
 use borrow.Rule.Slice.PartMut.{putMid}
 use lib.ListN.{length}
 use Rattle.text.specs.Text.{Writes}
-use Rattle.text.proofs.Runs.{writes-length, writes-more, part-writes}
-use Rattle.netpbm.specs.Header.{writtenLimit}
+use Rattle.text.proofs.Runs.{writes-room, writes-more, part-writes}
 use Rattle.netpbm.proofs.Written.{written-headers-fit}
 use Rattle.still.specs.Still.{picture}
-use Rattle.still.proofs.Samples.{legal-shot, balanced-length, part-length}
+use Rattle.still.proofs.Samples.{whole-shot, balanced-length, part-length}
 use Rattle.still.proofs.write_picture.Statement.{statement}
 use Rattle.still.proofs.write_picture.Tie as tie
 
@@ -27,8 +26,7 @@ room c =
     let start = c .before .before .before .before in
     let wrote = c .write-header .ensures in
     let short = written-headers-fit (start .args .width) (start .args .height) (start .pre .some) (start .pre .most) in
-    let ends : c .write-header .result ≤ writtenLimit = omega (arith, short, wrote .ends) in
-    omega (arith, ends, start .pre .exact, start .pre .most, start .pre .room, writes-length wrote (omega (arith, ends, start .pre .room)))
+    writes-room wrote _ (omega (arith, short, wrote .ends, start .pre .exact, start .pre .most, start .pre .room))
 
 add-end : tie.Need-add-end
 add-end c = record { fits = omega (arith, room (c .before .before)) }
@@ -46,7 +44,7 @@ balance-samples-requires : tie.Need-balance-samples-requires
 balance-samples-requires c κs =
     let start = c .before .before .before .before .before .before .before in
     record {
-      shot = legal-shot _ _ (start .pre .exact) (start .pre .some) (start .pre .most);
+      shot = whole-shot _ _ (start .pre .exact) (start .pre .some) (start .pre .most);
       same = part-length (c .before .before .before .write-header .result) _ _ (room (c .before .before .before));
     }
 
@@ -63,7 +61,7 @@ returns c =
     let first = header .write-header .result in
     let before = header .write-header .last .1 .1 .0 in
     let piece = colouring .balance-samples .last .1 .0 in
-    let shot = legal-shot _ (length samples) (start .pre .exact) (start .pre .some) (start .pre .most) in
+    let shot = whole-shot _ (length samples) (start .pre .exact) (start .pre .some) (start .pre .most) in
     let size : length piece ≡ first + length samples - first =
     ap length (colouring .balance-samples .ensures) ∙ balanced-length samples (shot .whole) ∙ omega arith in
     writes-more (header .write-header .ensures) zero-le

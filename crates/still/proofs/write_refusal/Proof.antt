@@ -1,12 +1,12 @@
 -- `still::write_refusal` meets its contract.
 use Prim.Native.Nat.{_+_, _≤_, zero-le}
-use mathlib.Core.List.{[], _∷_, _++_}
+use mathlib.Core.List.{_++_}
 use native.Mathlib.Omega.{arith}
 use borrow.Author.Needs.{needs}
 use lib.ListN.{length}
 use Rattle.text.specs.Decimal.{decimal}
-use Rattle.text.specs.Text.{Writes}
-use Rattle.text.proofs.Runs.{writes-length, writes-more}
+use Rattle.text.specs.Text.{ascii, Writes}
+use Rattle.text.proofs.Runs.{writes-room, writes-more}
 use Rattle.still.specs.Still.{refusalLine}
 use Rattle.still.proofs.Sizes.{refusal-size}
 use Rattle.still.proofs.write_refusal.Statement.{statement}
@@ -25,12 +25,11 @@ write-text-requires c κs = omega (arith, room (c .before .before .before))
 write-decimal-requires : tie.Need-write-decimal-requires
 write-decimal-requires c κs =
     let done = c .before .before .before .write-text .ensures in
-    let roomy = room (c .before .before .before .before .before .before .before) in
-    omega (arith, roomy, done .ends, writes-length done (omega (arith, roomy, done .ends)))
+    writes-room done _ (omega (arith, room (c .before .before .before .before .before .before .before), done .ends))
 
 -- what is written by the end of the number
 number : (c : tie.After-write-decimal) → let start = c .before .before .before .before .before .before .before .before in
-    Writes 0 ((114 ∷ 101 ∷ 102 ∷ 117 ∷ 115 ∷ 101 ∷ 100 ∷ 32 ∷ []) ++ decimal (start .args .number)) (start .args .output .now)
+    Writes 0 (ascii "refused " ++ decimal (start .args .number)) (start .args .output .now)
     (c .write-decimal .result)
     (c .write-decimal .last .1 .0)
 number c = writes-more (c .before .before .before .before .write-text .ensures) zero-le (c .write-decimal .ensures)
@@ -41,8 +40,7 @@ slice-aggregate-write-text-2 c = search needs
 write-text-requires-2 : tie.Need-write-text-requires-2
 write-text-requires-2 c κs =
     let done = number (c .before .before .before .before) in
-    let roomy = room (c .before .before .before .before .before .before .before .before .before .before .before .before) in
-    omega (arith, roomy, done .ends, writes-length done (omega (arith, roomy, done .ends)))
+    writes-room done _ (omega (arith, room (c .before .before .before .before .before .before .before .before .before .before .before .before), done .ends))
 
 same-length : tie.Need-same-length
 same-length c = search needs

@@ -1,7 +1,7 @@
--- `netpbm::is_of` meets its contract.
+-- `netpbm::in_class` meets its contract.
 use borrow.Author.Needs.{needs}
-use Rattle.netpbm.proofs.is_of.Statement.{statement}
-use Rattle.netpbm.proofs.is_of.Tie as tie
+use Rattle.netpbm.proofs.in_class.Statement.{statement}
+use Rattle.netpbm.proofs.in_class.Tie as tie
 
 enum-told : tie.Need-enum-told
 enum-told c = search needs
@@ -21,7 +21,7 @@ returns c = rw (c .before .enum-told .given .1) (c .is-space .ensures)
 returns-2 : tie.Need-returns-2
 returns-2 c = rw (c .before .enum-told2 .given .1) (c .is-digit .ensures)
 
-pub is-of-spec : {M : Type 1} → statement M
-is-of-spec =
+pub in-class-spec : {M : Type 1} → statement M
+in-class-spec =
     tie.close
     (tie.spec enum-told is-space-requires enum-told-2 is-digit-requires returns returns-2)

@@ -32,7 +32,7 @@ module _ (P : Reading → Type 0) (malformed : P Malformed) where
   or-malformed false reading each = malformed
 
   -- what holds of a malformed header, and of every answer for a header of the right form, holds of each
-  pub header-is : (bytes : List ℕ)
+  header-is : (bytes : List ℕ)
       → ((width height largest end : ℕ) → isSpace (at bytes end) ≡ true → P (judged width height largest (end + 1)))
       → P (headerIn bytes)
   unfolding headerIn

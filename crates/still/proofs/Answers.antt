@@ -9,7 +9,7 @@ use borrow.Author.Tests.{eq-eqb, ne-eqb, eqb-true, eqb-false, lt-ltb, le-ltb, lt
 use lib.Dec.{ltb, eqb}
 use lib.ListN.{length, length-append, length-drop}
 use Rattle.refusal.specs.Refusal.{firstOf}
-use Rattle.refusal.proofs.Laws.{passed}
+use Rattle.refusal.proofs.Laws.{passed, refused-leaves}
 use Rattle.text.specs.Text.{Writes}
 use Rattle.shot.specs.Inner.{WholeShot}
 use Rattle.netpbm.specs.Header.{headerOf, numberOf, valuesOf, headerText, Fitting}
@@ -107,7 +107,7 @@ is-legal file header reads exact =
 
 pub refused-answer : (file : List ℕ) → (fileNumber file ≡ 0 → ⊥) → answer file ≡ refusalLine (fileNumber file)
 unfolding answer
-refused-answer file refused = rw (ne-eqb (fileNumber file) 0 refused) refl
+refused-answer file = refused-leaves (fileNumber file) _ _
 
 module _ (file output : List ℕ) where
   pub short-outcome : length output < outputLimit → outcome file output ≡ record { size = 0; output = output }

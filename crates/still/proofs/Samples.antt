@@ -1,12 +1,11 @@
 -- Colouring the samples of a picture.
-use mathlib.Core.Path.{_≡_, refl, _∙_}
+use mathlib.Core.Path.{_≡_, refl}
 use mathlib.Core.Bool.{true}
 use mathlib.Core.List.{List, [], _∷_}
-use Prim.Native.Nat.{ℕ, _+_, _-_, _*_, _%_, _≤_, _<_}
+use Prim.Native.Nat.{ℕ, _*_, _%_, _≤_, _<_}
 use native.Mathlib.Omega.{arith}
 use borrow.Author.Tests.{eq-eqb}
-use lib.ListN.{length, take, drop, length-drop}
-use lib.Seq.{length-take-le}
+use lib.ListN.{length}
 use Rattle.pixel.specs.Methods.{methodOf}
 use Rattle.pixel.specs.Strip.{isWhole}
 use Rattle.colouring.proofs.Written.{coloured-length}
@@ -28,8 +27,3 @@ whole-shot area samples exact some most =
 pub balanced-length : (samples : List ℕ) → isWhole (length samples) ≡ true → length (balanced samples) ≡ length samples
 unfolding balanced
 balanced-length samples whole = coloured-length (methodOf fileMethod) (curveOf fileChoice (samples ∷ [])) samples whole
-
--- a part of n bytes
-pub part-length : (first n : ℕ) (run : List ℕ) → first + n ≤ length run → length (take (first + n - first) (drop first run)) ≡ n
-part-length first n run fits =
-    length-take-le (first + n - first) (drop first run) (omega (arith, length-drop first run)) ∙ omega arith

@@ -4,13 +4,13 @@ use mathlib.Core.List.{List}
 use Prim.Native.Nat.{ℕ, _+_, _-_, _≤_, zero-le}
 use native.Mathlib.Omega.{arith}
 use borrow.Author.Needs.{needs}
-use borrow.Rule.Slice.PartMut.{putMid}
+use borrow.Rule.Slice.PartMut.{putMid, mid-len}
 use lib.ListN.{length}
 use Rattle.text.specs.Text.{Writes}
 use Rattle.text.proofs.Runs.{writes-room, writes-more, part-writes}
 use Rattle.netpbm.proofs.Written.{written-headers-fit}
 use Rattle.still.specs.Still.{picture}
-use Rattle.still.proofs.Samples.{whole-shot, balanced-length, part-length}
+use Rattle.still.proofs.Samples.{whole-shot, balanced-length}
 use Rattle.still.proofs.write_picture.Statement.{statement}
 use Rattle.still.proofs.write_picture.Tie as tie
 
@@ -45,7 +45,7 @@ balance-samples-requires c κs =
     let start = c .before .before .before .before .before .before .before in
     record {
       shot = whole-shot _ _ (start .pre .exact) (start .pre .some) (start .pre .most);
-      same = part-length (c .before .before .before .write-header .result) _ _ (room (c .before .before .before));
+      same = mid-len (c .before .before .before .write-header .result) _ _ (room (c .before .before .before)) ∙ omega arith;
     }
 
 same-length : tie.Need-same-length

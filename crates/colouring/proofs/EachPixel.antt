@@ -1,14 +1,14 @@
 -- A strip whose pixels are changed, place by place.
-use mathlib.Core.Path.{_≡_, refl, sym, ap, _∙_, subst}
+use mathlib.Core.Path.{_≡_, refl, sym, ap, ap₂, _∙_, subst}
 use mathlib.Core.Bool.{true}
-use mathlib.Core.List.{List, [], _∷_, map}
+use mathlib.Core.List.{List, [], _∷_, map, List·Memᴰ.List·Memᴰ·head, List·Memᴰ.List·Memᴰ·tail}
 use Prim.Native.Nat.{ℕ, zero, suc, _+_, _*_, _/_, _%_, _<_}
 use native.Mathlib.Numerals.{towards-suc}
 use native.Mathlib.Omega.{arith}
 use lib.ListN.{length, take, set, length-set, length-map}
 use lib.Seq.{take-suc-set, take-suc}
-use Rattle.tables.specs.Table.{at}
-use Rattle.pixel.specs.Strip.{isWhole, pixelsOf, pixelAt}
+use Rattle.tables.specs.Table.{at, _among_}
+use Rattle.pixel.specs.Strip.{isWhole, pixelsOf, bytesOf, pixelAt}
 use Rattle.pixel.specs.declared.Pixel.{Pixel}
 use Rattle.pixel.proofs.Strips.{whole-means, length-pixels, length-bytes, pixelFrom}
 use Rattle.colouring.specs.Colouring.{eachPixel}
@@ -39,6 +39,15 @@ pub each-pixel-from : (f : Pixel → Pixel) (strip : List ℕ) (i : ℕ) → i %
 each-pixel-from f strip i threes inside whole =
     subst (λ (j : ℕ). pixelFrom (eachPixel f strip) j ≡ f (pixelFrom strip j)) (omega arith)
     (each-pixel-at f strip (i / 3) (omega arith))
+
+-- changes that agree on the pixels of a strip make the same strip of it
+pub each-pixel-same : (f g : Pixel → Pixel) (strip : List ℕ) → ((p : Pixel) → p among pixelsOf strip → f p ≡ g p)
+    → eachPixel f strip ≡ eachPixel g strip
+each-pixel-same f g strip same = ap bytesOf (go (pixelsOf strip) same)
+  where
+    go : (ps : List Pixel) → ((p : Pixel) → p among ps → f p ≡ g p) → map f ps ≡ map g ps
+    go [] same = refl
+    go (p ∷ ps) same = ap₂ _∷_ (same p (List·Memᴰ·head refl)) (go ps (λ q m. same q (List·Memᴰ·tail m)))
 
 -- a strip of whole pixels keeps its length
 pub each-pixel-length : (f : Pixel → Pixel) (strip : List ℕ) → isWhole (length strip) ≡ true

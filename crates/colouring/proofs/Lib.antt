@@ -1,2 +1,4 @@
+pub mod Along
 pub mod EachPixel
+pub mod Lines
 pub mod Written

@@ -1,3 +1,4 @@
 pub mod Colouring
 pub mod Written
 pub mod Inner
+pub mod Line

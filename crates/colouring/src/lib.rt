@@ -1,21 +1,178 @@
-// Colouring a strip by a curve and a method (document 01, "Moving a pixel").
+// Colouring a strip by a curve and a method (document 01, "Moving a pixel"). All pixels of one intensity go to one target, and their
+// written samples then lie on one line: 766 divisions make the lines of a colouring, and a pixel takes none.
 ghost use mathlib.Core.Path.{_≡_};
+ghost use Prim.Native.Nat.{_+_, _^_, _<_, _≤_};
 ghost use Rattle.tables.specs.Table.{at};
-ghost use Rattle.pixel.specs.Move.{intensity, moved};
+ghost use Rattle.pixel.specs.Move.{naikMurthy, yangLee, byMethod};
 ghost use Rattle.curve.specs.Curve.{EntriesInRange};
 ghost use Rattle.colouring.specs.Colouring.{colouredStrip};
 ghost use Rattle.colouring.specs.Inner.{SameSize};
+ghost use Rattle.colouring.specs.Line.{onLine, lineFrom, upFrom, downTo, Slopes, Moving, Along, IsLineOf, LinesOf, alongLines};
 use pixel::Method;
-use pixel::Pixel;
 
-// One pixel, moved to the curve's entry for its intensity.
-fn colour_pixel(curve: &[u16; 766], method: Method, p: Pixel) -> Pixel
-    requires { ⌜ EntriesInRange (now curve) ⌝ }
-    ensures { λ q. ⌜ q ≡ moved method p (at (now (curve .entry)) (intensity p)) ⌝ }
+// A line has so many parts to a step of a sample: a power of two, so that the division is a shift. Slope and offset are in parts,
+// and so are held in 32 bits: what a sample on the line carries beyond them is a multiple of 256 steps.
+const STEP: u64 = 16777216;
+
+const HALF: u64 = 8388608;
+
+struct Line {
+    slope: u32,
+    offset: u32,
+}
+
+// The sample on the line at c: one multiplication, one addition and one shift.
+fn on_line(line: Line, c: u8) -> u8
+    ensures { λ r. ⌜ r ≡ onLine line c ⌝ }
 {
-    let s = p.r as usize + p.g as usize + p.b as usize;
-    let target = curve[s];
-    pixel::move_pixel(method, p, target as u32)
+    let parts = (c as u64) * (line.slope as u64) + (line.offset as u64);
+    (parts / STEP % 256) as u8
+}
+
+// The line of slope n / d that has so many parts at the sample `from`.
+fn line_from(n: u64, d: u64, from: u64, parts: u64) -> Line
+    requires { ⌜ Slopes n d from × (parts < 2 ^ 32) ⌝ }
+    ensures { λ r. ⌜ r ≡ lineFrom n d from parts ⌝ }
+{
+    // One part more than the whole ones, so that no multiple falls short.
+    let slope = n * STEP / d + 1;
+    // 2^40 is more than can be taken away, and nothing in 32 bits.
+    let offset = (1099511627776 + parts - from * slope) % 4294967296;
+    Line {
+        slope: slope as u32,
+        offset: offset as u32,
+    }
+}
+
+// Up from black: near(x × n / d) at the sample x above `from`.
+fn up_from(n: u64, d: u64, from: u64) -> Line
+    requires { ⌜ Slopes n d from ⌝ }
+    ensures { λ r. ⌜ r ≡ upFrom n d from ⌝ }
+{
+    line_from(n, d, from, HALF)
+}
+
+// Down from white: 255 − near(x × n / d) at the sample x below `from`.
+fn down_to(n: u64, d: u64, from: u64) -> Line
+    requires { ⌜ Slopes n d from ⌝ }
+    ensures { λ r. ⌜ r ≡ downTo n d from ⌝ }
+{
+    line_from(n, d, from, 4294967295 - HALF)
+}
+
+// Method 1: the line of the pixels of intensity s, moved to the target f.
+fn naik_murthy(s: u64, f: u64) -> Line
+    requires { ⌜ Moving s f ⌝ }
+    ensures { λ r. ⌜ Along (naikMurthy s f) s f r ⌝ }
+{
+    if f <= s {
+        return up_from(f, s, 0);
+    }
+    down_to(765 - f, 765 - s, 255)
+}
+
+// Method 2 for dark pixels, s at most 255.
+fn yang_lee_dark(s: u64, f: u64) -> Line
+    requires { ⌜ Moving s f × (s ≤ 255) ⌝ }
+    ensures { λ r. ⌜ Along (yangLee s f) s f r ⌝ }
+{
+    if f <= 255 {
+        return up_from(f, s, 0);
+    }
+    down_to(765 - f, 2 * s, s)
+}
+
+// Method 2 for bright pixels, s above 510.
+fn yang_lee_bright(s: u64, f: u64) -> Line
+    requires { ⌜ Moving s f × (510 < s) ⌝ }
+    ensures { λ r. ⌜ Along (yangLee s f) s f r ⌝ }
+{
+    let t = 765 - s;
+    if f <= 510 {
+        return up_from(f, 2 * t, s - 510);
+    }
+    down_to(765 - f, t, 255)
+}
+
+// Method 2.
+fn yang_lee(s: u64, f: u64) -> Line
+    requires { ⌜ Moving s f ⌝ }
+    ensures { λ r. ⌜ Along (yangLee s f) s f r ⌝ }
+{
+    if s <= 255 {
+        return yang_lee_dark(s, f);
+    }
+    if s <= 510 {
+        return naik_murthy(s, f);
+    }
+    yang_lee_bright(s, f)
+}
+
+// The line of pixels that are neither black nor white.
+fn by_method(method: Method, s: u64, f: u64) -> Line
+    requires { ⌜ Moving s f ⌝ }
+    ensures { λ r. ⌜ Along (byMethod method s f) s f r ⌝ }
+{
+    match method {
+        Method::NaikMurthy => naik_murthy(s, f),
+        Method::YangLee => yang_lee(s, f),
+    }
+}
+
+// The line of the pixels of intensity s. Black and white stay: their lines are level.
+fn line_of(method: Method, s: u64, f: u64) -> Line
+    requires { ⌜ (s ≤ 765) × (f ≤ 765) ⌝ }
+    ensures { λ r. ⌜ IsLineOf method s f r ⌝ }
+{
+    if s == 0 {
+        return Line {
+            slope: 0,
+            offset: 0,
+        };
+    }
+    if s == 765 {
+        return Line {
+            slope: 0,
+            offset: 4278190080,
+        };
+    }
+    by_method(method, s, f)
+}
+
+// The line of every intensity.
+fn lines_of(curve: &[u16; 766], method: Method) -> [Line; 766]
+    requires { ⌜ EntriesInRange (now curve) ⌝ }
+    ensures { λ r. ⌜ LinesOf method (now (curve .entry)) r ⌝ }
+{
+    let none = Line {
+        slope: 0,
+        offset: 0,
+    };
+    let mut lines = [none; 766];
+    let mut s: usize = 0;
+    while s < 766 {
+        lines[s] = line_of(method, s as u64, curve[s] as u64);
+        s += 1;
+    }
+    lines
+}
+
+// Every pixel of the source, moved along the line of its intensity, at the same place of the destination.
+fn colour_by_lines(lines: [Line; 766], source: &[u8], destination: &mut [u8])
+    requires { ⌜ SameSize (now source) (now destination) ⌝ }
+    ensures { λ _. ⌜ now (destination .exit) ≡ alongLines lines (now (source .entry)) ⌝ }
+{
+    let mut i: usize = 0;
+    while i < source.len() {
+        let r = source[i];
+        let g = source[i + 1];
+        let b = source[i + 2];
+        let line = lines[pixel::intensity_of(r, g, b)];
+        destination[i] = on_line(line, r);
+        destination[i + 1] = on_line(line, g);
+        destination[i + 2] = on_line(line, b);
+        i += 3;
+    }
 }
 
 // Every pixel of the source, moved to the curve's entry for its intensity, at the same place of the destination.
@@ -24,17 +181,5 @@ pub fn colour_strip(curve: &[u16; 766], method: Method, source: &[u8], destinati
     requires { ⌜ SameSize (now source) (now destination) ⌝ }
     ensures { λ _. ⌜ now (destination .exit) ≡ colouredStrip method (now (curve .entry)) (now (source .entry)) ⌝ }
 {
-    let mut i: usize = 0;
-    while i < source.len() {
-        let p = Pixel {
-            r: source[i],
-            g: source[i + 1],
-            b: source[i + 2],
-        };
-        let q = colour_pixel(curve, method, p);
-        destination[i] = q.r;
-        destination[i + 1] = q.g;
-        destination[i + 2] = q.b;
-        i += 3;
-    }
+    colour_by_lines(lines_of(curve, method), source, destination);
 }

@@ -133,6 +133,13 @@ fn moved_sample(method: Method, s: u64, f: u64, c: u64) -> u8
     by_method(method, s, f, c)
 }
 
+// The intensity of a pixel. The contract hands its range on, so that it is a place in a table of 766.
+pub fn intensity_of(r: u8, g: u8, b: u8) -> usize
+    ensures { λ s. ⌜ (s ≡ r + g + b) × (s ≤ 765) ⌝ }
+{
+    r as usize + g as usize + b as usize
+}
+
 // The pixel, moved to a target of at most 765.
 pub fn move_pixel(method: Method, pixel: Pixel, target: u32) -> Pixel
     requires { ⌜ target ≤ 765 ⌝ }

@@ -1,0 +1,28 @@
+-- `colouring::on_line` meets its contract.
+use Prim.Native.Nat.{_^_}
+use native.Mathlib.Nat.{mul-le-mul}
+use native.Mathlib.Omega.{arith}
+use borrow.Author.Needs.{needs}
+use Rattle.colouring.proofs.on_line.Statement.{statement}
+use Rattle.colouring.proofs.on_line.Tie as tie
+
+cast-parts : tie.Need-cast-parts
+cast-parts c = search needs
+
+mul-parts : tie.Need-mul-parts
+mul-parts c = omega (arith, mul-le-mul {n₁ = c .before .args .c} {m₁ = c .before .args .line .slope} {n₂ = 255} {m₂ = 2 ^ 32} (omega arith) (omega arith))
+
+cast-parts-2 : tie.Need-cast-parts-2
+cast-parts-2 c = search needs
+
+add-parts : tie.Need-add-parts
+add-parts c = omega (arith, mul-le-mul {n₁ = c .before .before .args .c} {m₁ = c .before .before .args .line .slope} {n₂ = 255} {m₂ = 2 ^ 32} (omega arith) (omega arith))
+
+cast-result : tie.Need-cast-result
+cast-result c = search needs
+
+returns : tie.Need-returns
+returns c = search needs
+
+pub on-line-spec : {M : Type 1} → statement M
+on-line-spec = tie.close (tie.spec cast-parts mul-parts cast-parts-2 add-parts cast-result returns)

@@ -11,7 +11,7 @@ use borrow.Author.Tests.{ne-eqb}
 use Rattle.rounding.proofs.Laws.{near-le, near-mono}
 use Rattle.tables.specs.Table.{tabulate, at}
 use Rattle.tables.proofs.Cases.{either}
-use Rattle.tables.proofs.Laws.{length-tabulate, at-tabulate, is-tabulate, tabulate-same}
+use Rattle.tables.proofs.Laws.{length-tabulate, at-tabulate, at-table, is-tabulate, tabulate-same}
 use Rattle.targets.specs.Cube.{G}
 use Rattle.targets.proofs.Laws.{targets-are-right}
 use Rattle.curve.specs.Curve.{shareOf, wholeOf, previous, shareAt, cubeEntry, equalisedEntry, byChoice, withEnds, entry, toneCurve, CurvesAreToneCurves}
@@ -236,7 +236,7 @@ tone-curve-same choice N H H' same =
 module _ (N : ℕ) (H : ℕ → ℕ) (whole : ℕ) (shares : List ℕ) (wholeIs : whole ≡ wholeOf N) (sharesAre : shares ≡ tabulate (shareAt H) 766) where
   -- each share, read from its table
   shares-at : (s : ℕ) → s ≤ 765 → at shares s ≡ shareAt H s
-  shares-at s h = rw sharesAre (at-tabulate (shareAt H) 766 s (omega arith))
+  shares-at s h = at-table (shareAt H) 766 shares sharesAre s (omega arith)
 
   -- the entries by a rule, with the ends set
   entries-curve : (choice : Choice) (f : ℕ → ℕ) (entries curve : List ℕ) → entries ≡ tabulate f 766
@@ -246,7 +246,7 @@ module _ (N : ℕ) (H : ℕ → ℕ) (whole : ℕ) (shares : List ℕ) (wholeIs 
       curveIs
       ∙ curve-of choice N H (at entries)
       (λ s h.
-      rw entriesAre (at-tabulate f 766 s (omega arith)) ∙ same s h ∙ ap₂ (byChoice choice) wholeIs (shares-at s h))
+      at-table f 766 entries entriesAre s (omega arith) ∙ same s h ∙ ap₂ (byChoice choice) wholeIs (shares-at s h))
 
   -- choice 2: the curve, from the equalised entries
   pub equalised-curve : (entries curve : List ℕ) → entries ≡ tabulate (λ s. equalisedEntry whole (at shares s)) 766
@@ -258,7 +258,7 @@ module _ (N : ℕ) (H : ℕ → ℕ) (whole : ℕ) (shares : List ℕ) (wholeIs 
   module _ (scaled : List ℕ) (scaledAre : scaled ≡ tabulate (λ k. whole * G k) 766) where
     -- each scaled target, read from its table
     scaled-at : (k : ℕ) → k ≤ 765 → at scaled k ≡ whole * G k
-    scaled-at k h = rw scaledAre (at-tabulate (λ k. whole * G k) 766 k (omega arith))
+    scaled-at k h = at-table (λ k. whole * G k) 766 scaled scaledAre k (omega arith)
 
     -- the table does not fall
     pub scaled-non-decreasing : NonDecreasing (at scaled)
@@ -276,7 +276,11 @@ module _ (N : ℕ) (H : ℕ → ℕ) (whole : ℕ) (shares : List ℕ) (wholeIs 
         nearest-same (at scaled) (λ k. whole * G k) 765 (top * at shares s) scaled-at
         ∙ ap (λ (t : ℕ). nearestPlace (λ k. whole * G k) 765 (t * at shares s)) topIs)
 
-  -- the shares of a cumulative histogram of 1 to 2^31 pixels are within the whole
+  -- the shares of a cumulative histogram do not fall
+  pub shares-non-decreasing : IsCumulative N H → NonDecreasing (at shares)
+  shares-non-decreasing is s t h l = rw (shares-at s (le-trans h l), shares-at t l) (shares-rise is s t h l)
+
+  -- and, of 1 to 2^31 pixels, are within the whole
   pub shares-fit : 0 < N → N ≤ 2 ^ 31 → IsCumulative N H → Shares whole shares
   shares-fit positive most is =
       record {

@@ -1,4 +1,4 @@
--- Laws of the nearest place: there is one and only one, it does not fall where the aim rises, and how a binary search finds it.
+-- Laws of the nearest place: there is one and only one, it does not fall where the aim rises, and how a walk along the sequence finds it.
 use mathlib.Core.Path.{_≡_}
 use mathlib.Core.Logic.{⊎-elim}
 use mathlib.Core.List.{List}
@@ -9,7 +9,7 @@ use borrow.Author.Tests.{lt-ltb, le-ltb}
 use Rattle.tables.specs.Table.{at}
 use Rattle.tables.proofs.Cases.{either}
 use Rattle.curve.specs.Histogram.{NonDecreasing}
-use Rattle.curve.specs.Inner.{FirstAtLeast}
+use Rattle.curve.specs.Inner.{Level, Bounding}
 use Rattle.curve.specs.Nearest.{distance, Nearest, nearer, nearestPlace, NearestMeans}
 
 -- of two values b ≤ a, an aim that is nearer to a lies above their middle
@@ -98,116 +98,94 @@ nearest-same g g' n aim same = nearest-unique (carry (nearest-is g n aim)) (near
           first = λ j h. rw (← same k (a .within), ← same j (le-trans (le-of-lt h) (a .within))) (a .first j h);
         }
 
--- A binary search for the first place at which g is at least v: all before low is below v, and all from high on is at least v.
-pub record Bracket (g : List ℕ) (v low high : ℕ) : Type 0 where
-  pub ordered : low ≤ high
-  pub within : high ≤ 766
-  pub below : (j : ℕ) → j < low → at g j < v
-  pub above : (j : ℕ) → high ≤ j → j ≤ 765 → v ≤ at g j
-
-module _ {g : List ℕ} {v : ℕ} where
-  -- at the start every place is open
-  pub bracket-start : Bracket g v 0 766
-  bracket-start =
+-- The walk along g: `lower` follows `upper` where g rises, and stays where g is level.
+module _ {g : List ℕ} where
+  pub level-start : Level g 0 0
+  level-start =
       record {
+        within = zero-le;
         ordered = zero-le;
-        within = le-refl 766;
-        below = λ j l. absurd (not-suc-le-zero l);
-        above = λ j l l'. omega arith;
+        inside = λ h. h;
+        level = λ j l h. absurd (not-suc-le-zero h);
+        less = λ j h. absurd (not-suc-le-zero h);
       }
 
-  -- at the end none is
-  pub bracket-end : {low high : ℕ} → Bracket g v low high → high ≤ low → FirstAtLeast g v low
-  bracket-end b h =
-      record {
-        within = le-trans (b .ordered) (b .within);
-        below = b .below;
-        above = λ j l. b .above j (le-trans h l);
-      }
-
-  module _ {low high : ℕ} (up : NonDecreasing (at g)) (b : Bracket g v low high) (middle : ℕ) (l : low ≤ middle) (h : middle < high) where
-    -- the middle place is below v, and so is all before it
-    pub bracket-up : at g middle < v → Bracket g v (middle + 1) high
-    bracket-up less =
+  module _ {lower upper : ℕ} (up : NonDecreasing (at g)) (l : Level g lower upper) (here : upper < 766) where
+    pub level-rises : at g lower < at g upper → Level g upper (upper + 1)
+    level-rises more =
         record {
+          within = omega arith;
           ordered = omega arith;
-          within = b .within;
-          below = λ j i. lt-of-le-of-lt (up j middle (omega arith) (omega (arith, b .within))) less;
-          above = b .above;
+          inside = λ h. omega arith;
+          level = λ j h k. let e : j ≡ upper = omega arith in rw e;
+          less = λ j h.
+              either lower j
+              (λ q. omega (arith, l .level j q h))
+              (λ q. omega (arith, l .less j q));
         }
 
-    -- the middle place is at least v, and so is all after it
-    pub bracket-down : v ≤ at g middle → Bracket g v low middle
-    bracket-down least =
+    pub level-stays : at g upper ≤ at g lower → Level g lower (upper + 1)
+    level-stays least =
         record {
-          ordered = l;
-          within = le-trans (le-of-lt h) (b .within);
-          below = b .below;
-          above = λ j i i'. le-trans least (up middle j i i');
+          within = omega arith;
+          ordered = omega (arith, l .ordered);
+          inside = λ h. omega (arith, l .ordered);
+          level = λ j h k.
+              ⊎-elim
+              (λ (e : j ≡ upper). rw e (le-antisymm least (up lower upper (l .ordered) (omega arith))))
+              (λ (m : j < upper). l .level j h m)
+              (eq-or-lt-of-le (omega arith));
+          less = l .less;
         }
 
--- The four ends of the search for the nearest place: `upper` is the first place at which g is at least the aim.
-module _ (g : List ℕ) (aim upper : ℕ) (up : NonDecreasing (at g)) (l : FirstAtLeast g aim upper) where
-  -- `upper` is the first place of all
+-- The four ends: `lower` and `upper` are the bounds of the aim.
+module _ (g : List ℕ) (aim lower upper : ℕ) (up : NonDecreasing (at g)) (b : Bounding g aim lower upper) where
+  open Bounding b using (level, below, above)
+
+  -- no place is below the aim
   pub found-start : upper ≡ 0 → 0 ≡ nearestPlace (at g) 765 aim
   found-start e =
       nearest-unique (record {
         within = zero-le;
-        least = λ j h. omega (arith, l .above 0 (omega arith) (omega arith), up 0 j zero-le h);
+        least = λ j h. omega (arith, above 0 (omega arith) (omega arith), up 0 j zero-le h);
         first = λ j h. absurd (not-suc-le-zero h);
       }) (nearest-is (at g) 765 aim)
 
   module _ (some : upper ≡ 0 → ⊥) where
-    -- the place before `upper`
-    abbrev lower : ℕ
-    lower = upper - 1
+    -- `lower` stands before `upper`, and holds less than the aim
+    before : lower < upper
+    before = level .inside (omega arith)
 
-    -- `lower` and `upper` stand side by side
-    next : upper ≡ lower + 1
-    next = omega arith
-
-    -- `lower` holds less than the aim
     pub lower-below : at g lower < aim
-    lower-below = l .below lower (omega (arith, next))
+    lower-below = below lower before
 
-    -- no place before `upper` holds more than `lower`
+    -- no place before `upper` holds more
     before-upper : (j : ℕ) → j < upper → at g j ≤ at g lower
-    before-upper j h = up j lower (omega (arith, next)) (omega (arith, next, l .within))
+    before-upper j h =
+        either lower j (λ q. omega (arith, level .level j q h)) (λ q. omega (arith, level .less j q))
 
-    -- k: the first place that holds as much as `lower`
-    module _ (k : ℕ) (first : FirstAtLeast g (at g lower) k) where
-      -- it is not after `lower`
-      first-le : k ≤ lower
-      first-le = either k lower (λ q. q) (λ q. absurd (lt-irrefl (at g lower) (first .below lower q)))
+    -- `lower` is the nearest place, if the aim is at most in the middle between it and every place from `upper` on
+    take-lower : ((j : ℕ) → upper ≤ j → j ≤ 765 → aim + aim ≤ at g j + at g lower) → lower ≡ nearestPlace (at g) 765 aim
+    take-lower middle =
+        nearest-unique (record {
+          within = omega (arith, before, level .within);
+          least = λ j h.
+              either upper j
+              (λ q. omega (arith, lower-below, middle j q h, above j q h))
+              (λ q. omega (arith, lower-below, before-upper j q));
+          first = λ j h. omega (arith, lower-below, level .less j h);
+        }) (nearest-is (at g) 765 aim)
 
-      -- and holds the same
-      first-same : at g k ≡ at g lower
-      first-same =
-          le-antisymm (before-upper k (omega (arith, next, first-le)))
-          (first .above k (le-refl k) (omega (arith, next, first-le, l .within)))
-
-      -- it is the nearest place, if the aim is at most in the middle between `lower` and every place from `upper` on
-      take-lower : ((j : ℕ) → upper ≤ j → j ≤ 765 → aim + aim ≤ at g j + at g lower) → k ≡ nearestPlace (at g) 765 aim
-      take-lower middle =
-          nearest-unique (record {
-            within = omega (arith, next, first-le, l .within);
-            least = λ j h.
-                either upper j
-                (λ q. omega (arith, first-same, lower-below, middle j q h, l .above j q h))
-                (λ q. omega (arith, first-same, lower-below, before-upper j q));
-            first = λ j h. omega (arith, first-same, lower-below, first .below j h);
-          }) (nearest-is (at g) 765 aim)
-
-    -- no place holds as much as the aim: the first that holds as much as `lower` is the nearest
-    pub found-past : (k : ℕ) → 766 ≤ upper → FirstAtLeast g (at g lower) k → k ≡ nearestPlace (at g) 765 aim
-    found-past k h first = take-lower k first (λ j q i. omega arith)
+    -- no place holds as much as the aim
+    pub found-past : 766 ≤ upper → lower ≡ nearestPlace (at g) 765 aim
+    found-past h = take-lower (λ j q i. omega arith)
 
     module _ (h : upper < 766) where
       -- `upper` holds at least the aim
       pub upper-above : aim ≤ at g upper
-      upper-above = l .above upper (le-refl upper) (omega arith)
+      upper-above = above upper (le-refl upper) (omega arith)
 
-      -- and is the nearer: it is the nearest place
+      -- and is the nearer
       pub found-upper : at g upper - aim < aim - at g lower → upper ≡ nearestPlace (at g) 765 aim
       found-upper q =
           nearest-unique (record {
@@ -219,7 +197,6 @@ module _ (g : List ℕ) (aim upper : ℕ) (up : NonDecreasing (at g)) (l : First
             first = λ j m. omega (arith, upper-above, lower-below, q, before-upper j m);
           }) (nearest-is (at g) 765 aim)
 
-      -- or is not the nearer: the first place that holds as much as `lower` is
-      pub found-lower : (k : ℕ) → aim - at g lower ≤ at g upper - aim → FirstAtLeast g (at g lower) k → k ≡ nearestPlace (at g) 765 aim
-      found-lower k q first =
-          take-lower k first (λ j m i. omega (arith, upper-above, lower-below, q, up upper j m i))
+      -- or is not
+      pub found-lower : aim - at g lower ≤ at g upper - aim → lower ≡ nearestPlace (at g) 765 aim
+      found-lower q = take-lower (λ j m i. omega (arith, upper-above, lower-below, q, up upper j m i))

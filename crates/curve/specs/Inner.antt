@@ -5,11 +5,23 @@ use Prim.Native.Nat.{ℕ, _*_, _^_, _≤_, _<_}
 use Rattle.tables.specs.Table.{at}
 use Rattle.curve.specs.Histogram.{cumulative}
 
--- k is the first of 766 places at which the sequence is at least v, or 766 where there is none.
-pub record FirstAtLeast (g : List ℕ) (v k : ℕ) : Type 0 where
-  pub within : k ≤ 766
-  pub below : (j : ℕ) → j < k → at g j < v
-  pub above : (j : ℕ) → k ≤ j → j ≤ 765 → v ≤ at g j
+-- Every place before `upper` is below the aim.
+abbrev pub Below : List ℕ → ℕ → ℕ → Type 0
+Below g aim upper = (j : ℕ) → j < upper → at g j < aim
+
+-- `lower` is the first place that holds as much as the one before `upper`; both are 0 where there is none.
+pub record Level (g : List ℕ) (lower upper : ℕ) : Type 0 where
+  pub within : upper ≤ 766
+  pub ordered : lower ≤ upper
+  pub inside : 0 < upper → lower < upper
+  pub level : (j : ℕ) → lower ≤ j → j < upper → at g j ≡ at g lower
+  pub less : (j : ℕ) → j < lower → at g j < at g lower
+
+-- That, and `upper` is the first of the 766 places that holds at least the aim, or 766.
+pub record Bounding (g : List ℕ) (aim lower upper : ℕ) : Type 0 where
+  pub level : Level g lower upper
+  pub below : Below g aim upper
+  pub above : (j : ℕ) → upper ≤ j → j ≤ 765 → aim ≤ at g j
 
 -- The counts add up to n, at least 1 and at most 2^31.
 pub record HistogramOf (n : ℕ) (counts : List ℕ) : Type 0 where

@@ -7,7 +7,7 @@ ghost use Rattle.targets.specs.Cube.{G};
 ghost use Rattle.curve.specs.Choices.{isChoice, choiceOf};
 ghost use Rattle.curve.specs.Curve.{shareOf, wholeOf, shareAt, equalisedEntry, withEnds, toneCurve};
 ghost use Rattle.curve.specs.Histogram.{NonDecreasing, cumulative};
-ghost use Rattle.curve.specs.Inner.{FirstAtLeast, HistogramOf, Shares, AimsFit};
+ghost use Rattle.curve.specs.Inner.{Level, Below, Bounding, HistogramOf, Shares, AimsFit};
 ghost use Rattle.curve.specs.Nearest.{nearestPlace};
 
 // The curve choices: the cube's (equation 14 of source 004) and the equalised one (equation 5).
@@ -34,53 +34,62 @@ pub fn choice_of(number: u32) -> Choice
     Choice::Equalised
 }
 
-// The first place at which the sequence is at least v, or 766: a binary search.
-fn first_at_least(g: &[u64; 766], v: u64) -> usize
-    requires { ⌜ NonDecreasing (at (now g)) ⌝ }
-    ensures { λ r. ⌜ FirstAtLeast (now (g .entry)) v r ⌝ }
-{
-    let mut low = 0;
-    let mut high = 766;
-    while low < high {
-        let middle = low + (high - low) / 2;
-        if g[middle] < v {
-            low = middle + 1;
-        } else {
-            high = middle;
-        }
-    }
-    low
+// Where an aim lies in a sequence that does not fall: `upper` is the first place that holds at least the aim, or 766, and `lower` the
+// first that holds as much as the place before `upper`, since a sequence may stay level. Both are 0 where no place is below the aim.
+struct Bounds {
+    lower: usize,
+    upper: usize,
 }
 
-// The smallest place at which the sequence lies nearest to the aim. A sequence may stay level, so the place of a value is the
-// first that holds it.
-fn nearest_place(g: &[u64; 766], aim: u64) -> usize
+// The bounds of an aim, from those of an aim that is no larger. So the bounds of many aims, in order, are found in one walk.
+fn bounds_from(g: &[u64; 766], aim: u64, from: Bounds) -> Bounds
     requires { ⌜ NonDecreasing (at (now g)) ⌝ }
+    requires { ⌜ Level (now g) (from .lower) (from .upper) × Below (now g) aim (from .upper) ⌝ }
+    ensures { λ r. ⌜ Bounding (now (g .entry)) aim (r .lower) (r .upper) ⌝ }
+{
+    let mut lower = from.lower;
+    let mut upper = from.upper;
+    while upper < 766 {
+        if aim <= g[upper] {
+            return Bounds { lower, upper };
+        }
+        if g[lower] < g[upper] {
+            lower = upper;
+        }
+        upper += 1;
+    }
+    Bounds { lower, upper }
+}
+
+// The smallest place at which the sequence lies nearest to the aim: one of the aim's bounds.
+fn nearest_place(g: &[u64; 766], aim: u64, bounds: Bounds) -> usize
+    requires { ⌜ NonDecreasing (at (now g)) ⌝ }
+    requires { ⌜ Bounding (now g) aim (bounds .lower) (bounds .upper) ⌝ }
     ensures { λ r. ⌜ r ≡ nearestPlace (at (now (g .entry))) 765 aim ⌝ }
 {
-    let up = first_at_least(g, aim);
-    if up == 0 {
+    let lower = bounds.lower;
+    let upper = bounds.upper;
+    if upper == 0 {
         return 0;
     }
-    let lower = g[up - 1];
-    if 766 <= up {
-        return first_at_least(g, lower);
+    if 766 <= upper {
+        return lower;
     }
-    if g[up] - aim < aim - lower {
-        return up;
+    if g[upper] - aim < aim - g[lower] {
+        return upper;
     }
-    first_at_least(g, lower)
+    lower
 }
 
-// The cube's targets, each times w.
-fn scaled_targets(w: u64) -> [u64; 766]
-    requires { ⌜ w ≤ 2 ^ 32 ⌝ }
+// The targets, each times w.
+fn scaled_by(w: u64, targets: [u64; 766]) -> [u64; 766]
+    requires { ⌜ (w ≤ 2 ^ 32) × (targets ≡ tabulate G 766) ⌝ }
     ensures { λ r. ⌜ r ≡ tabulate (λ k. w * G k) 766 ⌝ }
 {
     let mut scaled = [0u64; 766];
     let mut k: usize = 0;
     while k < 766 {
-        scaled[k] = w * targets::target(k);
+        scaled[k] = w * targets[k];
         k += 1;
     }
     scaled
@@ -127,14 +136,17 @@ fn shares_of(counts: &[u32; 766]) -> [u64; 766]
 
 // For each sum the place of the sequence nearest to scale times its share.
 fn nearest_entries(g: &[u64; 766], scale: u64, shares: &[u64; 766]) -> [u16; 766]
-    requires { ⌜ NonDecreasing (at (now g)) ⌝ }
+    requires { ⌜ NonDecreasing (at (now g)) × NonDecreasing (at (now shares)) ⌝ }
     requires { ⌜ AimsFit scale (now shares) ⌝ }
     ensures { λ r. ⌜ r ≡ tabulate (λ s. nearestPlace (at (now (g .entry))) 765 (scale * at (now (shares .entry)) s)) 766 ⌝ }
 {
     let mut entries = [0u16; 766];
+    let mut bounds = Bounds { lower: 0, upper: 0 };
     let mut s: usize = 0;
     while s < 766 {
-        entries[s] = nearest_place(g, scale * shares[s]) as u16;
+        let aim = scale * shares[s];
+        bounds = bounds_from(g, aim, bounds);
+        entries[s] = nearest_place(g, aim, bounds) as u16;
         s += 1;
     }
     entries
@@ -181,8 +193,9 @@ pub fn tone_curve(choice: Choice, pixels: u32, counts: &[u32; 766]) -> [u16; 766
     let shares = shares_of(counts);
     match choice {
         Choice::Cube => {
-            let scaled = scaled_targets(whole);
-            with_ends(nearest_entries(&scaled, targets::target(765), &shares))
+            let targets = targets::all();
+            let scaled = scaled_by(whole, targets);
+            with_ends(nearest_entries(&scaled, targets[765], &shares))
         }
         Choice::Equalised => with_ends(equalised_entries(whole, &shares)),
     }

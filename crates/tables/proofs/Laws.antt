@@ -20,6 +20,10 @@ at-tabulate f zero k h = absurd (not-suc-le-zero h)
 at-tabulate f (suc n) zero h = refl
 at-tabulate f (suc n) (suc k) h = at-tabulate (λ k. f (suc k)) n k (le-of-suc-le-suc h)
 
+-- an entry of a list that is such a table
+pub at-table : (f : ℕ → ℕ) (n : ℕ) (table : List ℕ) → table ≡ tabulate f n → (k : ℕ) → k < n → at table k ≡ f k
+at-table f n table is k h = rw is (at-tabulate f n k h)
+
 -- a table is known by its length and its entries
 pub is-tabulate : (f : ℕ → ℕ) (n : ℕ) (table : List ℕ) → length table ≡ n → ((k : ℕ) → k < n → at table k ≡ f k) → table ≡ tabulate f n
 is-tabulate f n table size entry =

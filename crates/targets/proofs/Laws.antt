@@ -7,8 +7,10 @@ use Prim.Native.Nat.{ℕ, zero, suc, _+_, _*_, _-_, _≤_, _<_}
 use native.Mathlib.Nat.{lt-trans, le-of-suc-le-suc, not-suc-le-zero, le-of-lt, eq-or-lt-of-le}
 use native.Mathlib.Omega.{arith}
 use lib.Dec.{T, leb, ltb, eqb, eqb→eq, ltb→lt, leb→le, le→leb}
-use lib.ListN.{getD}
+use lib.ListN.{length, getD}
 use Rattle.rounding.specs.Fraction.{Fraction, whole, _over_, _⊗_, _≼_, _≈_}
+use Rattle.tables.specs.Table.{tabulate}
+use Rattle.tables.proofs.Laws.{is-tabulate}
 use Rattle.targets.specs.Cube.{G, cube}
 use Rattle.targets.specs.Paper.{area, added₂, taken₂, taken₃}
 use Rattle.targets.specs.Facts.{TargetsAreRight}
@@ -30,12 +32,14 @@ same-number x y h =
       eqb→eq _ _ (second-of-both (ltb 0 (x .den) && ltb 0 (y .den)) _ h),
     )
 
--- the table: the test that is computed over all of it, and what it says of each entry
+-- the table: the test that is computed over all of it, and what it says
 abbrev follows : List ℕ → ℕ → Bool
 follows table k = eqb (getD table k 0) (G k)
 
-pub table-follows : (table : List ℕ) → T (allBelow (λ i. follows table (0 + i)) 766) → (k : ℕ) → k ≤ 765 → getD table k 0 ≡ G k
-table-follows table passed k h = eqb→eq (getD table k 0) (G k) (upTo765 (follows table) passed k h)
+pub table-is : (table : List ℕ) → length table ≡ 766 → T (allBelow (λ i. follows table (0 + i)) 766) → table ≡ tabulate G 766
+table-is table size passed =
+    is-tabulate G 766 table size
+    (λ k h. eqb→eq (getD table k 0) (G k) (upTo765 (follows table) passed k (omega arith)))
 
 middle-exact : ℕ → Bool
 middle-exact k = leb (2 * cube k + 9 * (255 * 255) * k) (3 * cube 255 + 9 * 255 * (k * k))

@@ -1,6 +1,6 @@
 // The cube's targets: G(k) is 6 × 255³ times the share of the RGB cube whose intensity is at most k / 255.
 ghost use mathlib.Core.Path.{_≡_};
-ghost use Prim.Native.Nat.{_≤_};
+ghost use Rattle.tables.specs.Table.{tabulate};
 ghost use Rattle.targets.specs.Cube.{G};
 
 const TARGETS: [u64; 766] = [
@@ -772,10 +772,9 @@ const TARGETS: [u64; 766] = [
     99488250,
 ];
 
-// G(k), read from the table.
-pub fn target(k: usize) -> u64
-    requires { ⌜ k ≤ 765 ⌝ }
-    ensures { λ r. ⌜ r ≡ G k ⌝ }
+// All of them, G(k) at place k: handed over whole, since a constant is copied whole at each use.
+pub fn all() -> [u64; 766]
+    ensures { λ r. ⌜ r ≡ tabulate G 766 ⌝ }
 {
-    TARGETS[k]
+    TARGETS
 }

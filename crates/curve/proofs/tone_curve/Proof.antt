@@ -3,8 +3,11 @@ use native.Mathlib.Nat.{le-trans, le-of-eq}
 use native.Mathlib.Omega.{arith}
 use denote.Ref.{now}
 use borrow.Author.Needs.{needs}
+use Rattle.tables.specs.Table.{at}
+use Rattle.tables.proofs.Laws.{at-table}
+use Rattle.targets.specs.Cube.{G}
 use Rattle.curve.specs.Histogram.{cumulative}
-use Rattle.curve.proofs.Curve.{whole-le, G-le, shares-fit, aims-fit, scaled-non-decreasing, cube-curve, equalised-curve}
+use Rattle.curve.proofs.Curve.{whole-le, G-le, shares-fit, aims-fit, scaled-non-decreasing, shares-non-decreasing, cube-curve, equalised-curve}
 use Rattle.curve.proofs.Histogram.{histogram-is-cumulative}
 use Rattle.curve.proofs.tone_curve.Statement.{statement}
 use Rattle.curve.proofs.tone_curve.Tie as tie
@@ -18,19 +21,22 @@ shares-of-requires c κs = search needs
 enum-told : tie.Need-enum-told
 enum-told c = search needs
 
-scaled-targets-requires : tie.Need-scaled-targets-requires
-scaled-targets-requires c κs =
-    let counted = c .before .before .before in
-    rw (counted .whole-of .ensures) (whole-le (counted .before .pre .most))
+all-requires : tie.Need-all-requires
+all-requires c κs = search needs
 
-target-requires : tie.Need-target-requires
-target-requires c κs = search needs
+scaled-by-requires : tie.Need-scaled-by-requires
+scaled-by-requires c κs =
+    let counted = c .before .before .before .before in
+    (rw (counted .whole-of .ensures) (whole-le (counted .before .pre .most)), c .all .ensures)
+
+array-read-nearest-entries : tie.Need-array-read-nearest-entries
+array-read-nearest-entries c = search needs
 
 nearest-entries-requires : tie.Need-nearest-entries-requires
 nearest-entries-requires c κs =
-    let aimed = c .before in
-    let scaled = aimed .before .before in
-    let shared = scaled .before .before .before in
+    let scaled = c .before .before in
+    let table = scaled .before in
+    let shared = table .before .before .before in
     let counted = shared .before in
     let start = counted .before in
     let histogram = start .pre in
@@ -40,9 +46,14 @@ nearest-entries-requires c κs =
     let shares = shared .shares-of .result in
     let wholeIs = counted .whole-of .ensures in
     let sharesAre = shared .shares-of .ensures in
-    let fit = shares-fit N H whole shares wholeIs sharesAre (histogram .some) (histogram .most) (histogram-is-cumulative histogram) in (
-      scaled-non-decreasing N H whole shares wholeIs sharesAre (scaled .scaled-targets .result) (scaled .scaled-targets .ensures),
-      aims-fit whole shares fit (aimed .target .result) (le-trans (le-of-eq (aimed .target .ensures)) (G-le _ (omega arith))),
+    let is = histogram-is-cumulative histogram in
+    let fit = shares-fit N H whole shares wholeIs sharesAre (histogram .some) (histogram .most) is in
+    let top = at-table G 766 (table .all .result) (table .all .ensures) 765 (omega arith) in (
+      (
+        scaled-non-decreasing N H whole shares wholeIs sharesAre (scaled .scaled-by .result) (scaled .scaled-by .ensures),
+        shares-non-decreasing N H whole shares wholeIs sharesAre is,
+      ),
+      aims-fit whole shares fit (at (table .all .result) 765) (le-trans (le-of-eq top) (G-le 765 (omega arith))),
     )
 
 with-ends-requires : tie.Need-with-ends-requires
@@ -67,9 +78,10 @@ with-ends-requires-2 c κs = search needs
 returns : tie.Need-returns
 returns c =
     let filled = c .before in
-    let aimed = filled .before .before in
-    let scaled = aimed .before .before in
-    let told = scaled .before in
+    let scaled = filled .before .before .before in
+    let table = scaled .before in
+    let told = table .before in
+    let top = at-table G 766 (table .all .result) (table .all .ensures) 765 (omega arith) in
     let shared = told .before .before in
     let counted = shared .before in
     let start = counted .before in
@@ -77,9 +89,8 @@ returns c =
     let H = cumulative (now (start .args .counts)) in
     rw (told .enum-told .given .1)
     (cube-curve N H (counted .whole-of .result) (shared .shares-of .result) (counted .whole-of .ensures)
-    (shared .shares-of .ensures) (scaled .scaled-targets .result) (scaled .scaled-targets .ensures) (aimed .target .result)
-    (filled .nearest-entries .result) (c .with-ends .result) (aimed .target .ensures) (filled .nearest-entries .ensures)
-    (c .with-ends .ensures))
+    (shared .shares-of .ensures) (scaled .scaled-by .result) (scaled .scaled-by .ensures) (at (table .all .result) 765)
+    (filled .nearest-entries .result) (c .with-ends .result) top (filled .nearest-entries .ensures) (c .with-ends .ensures))
 
 returns-2 : tie.Need-returns-2
 returns-2 c =
@@ -102,8 +113,9 @@ tone-curve-spec =
     whole-of-requires
     shares-of-requires
     enum-told
-    scaled-targets-requires
-    target-requires
+    all-requires
+    scaled-by-requires
+    array-read-nearest-entries
     nearest-entries-requires
     with-ends-requires
     enum-told-2

@@ -3,14 +3,12 @@ use mathlib.Core.Path.{_≡_, refl, sym, ap, ap₂, _∙_, subst}
 use mathlib.Core.Bool.{true}
 use mathlib.Core.List.{List, [], _∷_, map, List·Memᴰ.List·Memᴰ·head, List·Memᴰ.List·Memᴰ·tail}
 use Prim.Native.Nat.{ℕ, zero, suc, _+_, _*_, _/_, _%_, _<_}
-use native.Mathlib.Numerals.{towards-suc}
 use native.Mathlib.Omega.{arith}
-use lib.ListN.{length, take, set, length-set, length-map}
-use lib.Seq.{take-suc-set, take-suc}
-use Rattle.tables.specs.Table.{at, _among_}
-use Rattle.pixel.specs.Strip.{isWhole, pixelsOf, bytesOf, pixelAt}
+use lib.ListN.{length, length-map}
+use Rattle.tables.specs.Table.{_among_}
+use Rattle.pixel.specs.Strip.{isWhole, pixelsOf, bytesOf, pixelFrom, pixelAt}
 use Rattle.pixel.specs.declared.Pixel.{Pixel}
-use Rattle.pixel.proofs.Strips.{whole-means, length-pixels, length-bytes, pixelFrom}
+use Rattle.pixel.proofs.Strips.{whole-means, length-pixels, length-bytes}
 use Rattle.colouring.specs.Colouring.{eachPixel}
 
 -- past the first pixel the places are those of the rest
@@ -60,24 +58,3 @@ each-pixel-length f strip whole =
       length-pixels strip,
       whole-means (length strip) whole,
     )
-
--- a list that agrees with another up to i, and is given the other's byte at i, agrees one byte further
-one-byte-more : (l full : List ℕ) (i a : ℕ) → i < length l → i < length full → take i l ≡ take i full → a ≡ at full i
-    → take (suc i) (set l i a) ≡ take (suc i) full
-one-byte-more l full i a inside within same e = take-suc-set l i a inside ∙ (rw (same, e) (sym (take-suc full i 0 within)))
-
--- and given the other's pixel from i, one pixel further
-pub one-pixel-more : (l full : List ℕ) (i : ℕ) (q : Pixel) → i + 2 < length l → length l ≡ length full → take i l ≡ take i full
-    → pixelFrom full i ≡ q
-    → take (i + 3) (set (set (set l i (q .r)) (i + 1) (q .g)) (i + 2) (q .b)) ≡ take (i + 3) full
-one-pixel-more l full i q inside size same e =
-    let l₁ = set l i (q .r) in
-    let l₂ = set l₁ (suc i) (q .g) in
-    let n₁ = length-set l i (q .r) in
-    let n₂ = length-set l₁ (suc i) (q .g) in
-    let er : q .r ≡ at full i = ap (λ (p : Pixel). p .r) (sym e) in
-    let eg : q .g ≡ at full (suc i) = ap (λ (p : Pixel). p .g) (sym e) ∙ simp towards-suc in
-    let eb : q .b ≡ at full (suc (suc i)) = ap (λ (p : Pixel). p .b) (sym e) ∙ simp towards-suc in
-    let s₁ = one-byte-more l full i (q .r) (omega arith) (omega arith) same er in
-    let s₂ = one-byte-more l₁ full (suc i) (q .g) (omega arith) (omega arith) s₁ eg in
-    simp towards-suc (one-byte-more l₂ full (suc (suc i)) (q .b) (omega arith) (omega arith) s₂ eb)

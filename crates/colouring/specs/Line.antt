@@ -16,9 +16,13 @@ use Rattle.colouring.specs.declared.Line.{Line}
 abbrev pub half : ℕ
 half = 2 ^ 23
 
--- The sample on the line at c, in whole steps. What goes beyond 32 bits is a multiple of 256 steps and falls away.
+-- The parts of the line at c, in 32 bits: what goes beyond them is a multiple of 256 steps and falls away.
+abbrev pub partsAt : Line → ℕ → ℕ
+partsAt line c = (c * line .slope + line .offset) % 2 ^ 32
+
+-- The sample on the line at c: its whole steps.
 abbrev pub onLine : Line → ℕ → ℕ
-onLine line c = (c * line .slope + line .offset) / (2 * half) % 256
+onLine line c = partsAt line c / (2 * half)
 
 -- The line of slope n / d that has so many parts at the sample `from`. The offset is negative as a rule, and is held in 32 bits.
 abbrev pub lineFrom : ℕ → ℕ → ℕ → ℕ → Line

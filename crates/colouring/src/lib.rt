@@ -1,14 +1,18 @@
 // Colouring a strip by a curve and a method (document 01, "Moving a pixel"). All pixels of one intensity go to one target, and their
 // written samples then lie on one line: 766 divisions make the lines of a colouring, and a pixel takes none.
 ghost use mathlib.Core.Path.{_≡_};
-ghost use Prim.Native.Nat.{_+_, _^_, _<_, _≤_};
+ghost use mathlib.Core.List.{[], _∷_};
+ghost use Prim.Native.Nat.{_+_, _/_, _^_, _<_, _≤_};
+ghost use lib.ListN.{length};
 ghost use Rattle.tables.specs.Table.{at};
-ghost use Rattle.pixel.specs.Move.{naikMurthy, yangLee, byMethod};
+ghost use Rattle.pixel.specs.Move.{eachSample, naikMurthy, yangLee, byMethod};
+ghost use Rattle.pixel.specs.Strip.{bytesOf};
 ghost use Rattle.curve.specs.Curve.{EntriesInRange};
 ghost use Rattle.colouring.specs.Colouring.{colouredStrip};
-ghost use Rattle.colouring.specs.Inner.{SameSize};
-ghost use Rattle.colouring.specs.Line.{onLine, lineFrom, upFrom, downTo, Slopes, Moving, Along, IsLineOf, LinesOf, alongLines};
+ghost use Rattle.colouring.specs.Inner.{SameSize, WrittenFrom};
+ghost use Rattle.colouring.specs.Line.{partsAt, onLine, lineFrom, upFrom, downTo, Slopes, Moving, Along, IsLineOf, LinesOf, alongLines};
 use pixel::Method;
+use pixel::Pixel;
 
 // A line has so many parts to a step of a sample: a power of two, so that the division is a shift. Slope and offset are in parts,
 // and so are held in 32 bits: what a sample on the line carries beyond them is a multiple of 256 steps.
@@ -21,12 +25,19 @@ struct Line {
     offset: u32,
 }
 
-// The sample on the line at c: one multiplication, one addition and one shift.
+// The parts of the line at c: one multiplication and one addition.
+fn parts_at(line: Line, c: u8) -> u32
+    ensures { λ r. ⌜ r ≡ partsAt line c ⌝ }
+{
+    let parts = (c as u64) * (line.slope as u64) + (line.offset as u64);
+    (parts % 4294967296) as u32
+}
+
+// The sample on the line at c: its whole steps.
 fn on_line(line: Line, c: u8) -> u8
     ensures { λ r. ⌜ r ≡ onLine line c ⌝ }
 {
-    let parts = (c as u64) * (line.slope as u64) + (line.offset as u64);
-    (parts / STEP % 256) as u8
+    (parts_at(line, c) / 16777216) as u8
 }
 
 // The line of slope n / d that has so many parts at the sample `from`.
@@ -157,22 +168,62 @@ fn lines_of(curve: &[u16; 766], method: Method) -> [Line; 766]
     lines
 }
 
+// Writes the sample of so many parts at byte i + 3. It is their highest byte, and the lower three go to the bytes before it: the
+// compiler makes one store of the four, with no shift.
+fn write_sample(parts: u32, destination: &mut [u8], i: usize)
+    requires { ⌜ i + 3 < length (now destination) ⌝ }
+    ensures { λ _. ⌜ WrittenFrom (now (destination .entry)) (now (destination .exit)) i (i + 3) (parts / 2 ^ 24 ∷ []) ⌝ }
+{
+    destination[i] = (parts % 256) as u8;
+    destination[i + 1] = (parts / 256 % 256) as u8;
+    destination[i + 2] = (parts / 65536 % 256) as u8;
+    destination[i + 3] = (parts / 16777216) as u8;
+}
+
+// Writes the second of the two pixels at byte i, moved along its line. The first one's bytes are touched, and so it is written
+// afterwards.
+fn write_second(line: Line, p: Pixel, destination: &mut [u8], i: usize)
+    requires { ⌜ i + 5 < length (now destination) ⌝ }
+    ensures { λ _. ⌜ WrittenFrom (now (destination .entry)) (now (destination .exit)) i (i + 3) (bytesOf (eachSample (onLine line) p ∷ [])) ⌝ }
+{
+    write_sample(parts_at(line, p.b), destination, i + 2);
+    write_sample(parts_at(line, p.g), destination, i + 1);
+    write_sample(parts_at(line, p.r), destination, i);
+}
+
+// Writes the pixel at byte i, moved along its line.
+fn write_pixel(line: Line, p: Pixel, destination: &mut [u8], i: usize)
+    requires { ⌜ i + 2 < length (now destination) ⌝ }
+    ensures { λ _. ⌜ WrittenFrom (now (destination .entry)) (now (destination .exit)) i i (bytesOf (eachSample (onLine line) p ∷ [])) ⌝ }
+{
+    destination[i + 2] = on_line(line, p.b);
+    destination[i + 1] = on_line(line, p.g);
+    destination[i] = on_line(line, p.r);
+}
+
 // Every pixel of the source, moved along the line of its intensity, at the same place of the destination.
 fn colour_by_lines(lines: [Line; 766], source: &[u8], destination: &mut [u8])
     requires { ⌜ SameSize (now source) (now destination) ⌝ }
     ensures { λ _. ⌜ now (destination .exit) ≡ alongLines lines (now (source .entry)) ⌝ }
 {
     let mut i: usize = 0;
-    while i < source.len() {
-        let r = source[i];
-        let g = source[i + 1];
-        let b = source[i + 2];
-        let line = lines[pixel::intensity_of(r, g, b)];
-        destination[i] = on_line(line, r);
-        destination[i + 1] = on_line(line, g);
-        destination[i + 2] = on_line(line, b);
-        i += 3;
+    while 6 <= source.len() - i {
+        // Two are read before one is written: where source and destination start at the same place of a page, reading the first
+        // would wait for the stores that touch its place.
+        let p = pixel::read_pixel(source, i);
+        let q = pixel::read_pixel(source, i + 3);
+        let second = pixel::intensity_of(q.r, q.g, q.b);
+        write_second(lines[second], q, destination, i);
+        let first = pixel::intensity_of(p.r, p.g, p.b);
+        write_pixel(lines[first], p, destination, i);
+        i += 6;
     }
+    if i == source.len() {
+        return;
+    }
+    let p = pixel::read_pixel(source, i);
+    let last = pixel::intensity_of(p.r, p.g, p.b);
+    write_pixel(lines[last], p, destination, i);
 }
 
 // Every pixel of the source, moved to the curve's entry for its intensity, at the same place of the destination.

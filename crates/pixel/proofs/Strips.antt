@@ -11,7 +11,7 @@ use lib.Seq.{drop-cons}
 use borrow.Author.Tests.{eqb-true}
 use Rattle.tables.specs.Table.{at, _among_}
 use Rattle.pixel.specs.Move.{Channel.red, Channel.green, Channel.blue, InRange, intensity}
-use Rattle.pixel.specs.Strip.{isWhole, pixelsOf, bytesOf, pixelAt, Bytes}
+use Rattle.pixel.specs.Strip.{isWhole, pixelsOf, bytesOf, pixelFrom, pixelAt, Bytes}
 use Rattle.pixel.specs.declared.Pixel.{Pixel}
 
 -- a whole number of pixels leaves no byte over
@@ -57,19 +57,17 @@ pixels-in-range (r ∷ g ∷ b ∷ rest) bytes p m =
 pub intensity-in-range : (p : Pixel) → InRange p → intensity p ≤ 765
 intensity-in-range p h = omega (arith, h red, h green, h blue)
 
--- the pixel whose first byte stands at i
-abbrev pub pixelFrom : List ℕ → ℕ → Pixel
-pixelFrom strip i = record { r = at strip i; g = at strip (i + 1); b = at strip (i + 2) }
+-- from byte i on: the three bytes of the pixel there, and then what follows them
+pub drop-three : (strip : List ℕ) (i : ℕ) → i + 2 < length strip
+    → drop i strip ≡ at strip i ∷ at strip (i + 1) ∷ at strip (i + 2) ∷ drop (i + 3) strip
+drop-three strip i h =
+    simp towards-suc
+    (drop-cons strip i 0 (omega arith)
+    ∙ ap (λ (l : List ℕ). at strip i ∷ l)
+    (drop-cons strip (suc i) 0 (omega arith)
+    ∙ ap (λ (l : List ℕ). at strip (suc i) ∷ l) (drop-cons strip (suc (suc i)) 0 (omega arith))))
 
--- from byte i on: the pixel of the three bytes there, and then the pixels of what follows them
+-- its pixel, and then the pixels of what follows
 pub drop-pixel : (strip : List ℕ) (i : ℕ) → i + 2 < length strip
     → pixelsOf (drop i strip) ≡ pixelFrom strip i ∷ pixelsOf (drop (i + 3) strip)
-drop-pixel strip i h = ap pixelsOf three
-  where
-    three : drop i strip ≡ at strip i ∷ at strip (i + 1) ∷ at strip (i + 2) ∷ drop (i + 3) strip
-    three =
-        simp towards-suc
-        (drop-cons strip i 0 (omega arith)
-        ∙ ap (λ (l : List ℕ). at strip i ∷ l)
-        (drop-cons strip (suc i) 0 (omega arith)
-        ∙ ap (λ (l : List ℕ). at strip (suc i) ∷ l) (drop-cons strip (suc (suc i)) 0 (omega arith))))
+drop-pixel strip i h = ap pixelsOf (drop-three strip i h)

@@ -22,9 +22,13 @@ abbrev pub bytesOf : List Pixel → List ℕ
 bytesOf [] = []
 bytesOf (p ∷ ps) = p .r ∷ p .g ∷ p .b ∷ bytesOf ps
 
--- The pixel at place i; past the end, black.
+-- The pixel whose first byte stands at i; past the end, black.
+abbrev pub pixelFrom : List ℕ → ℕ → Pixel
+pixelFrom strip i = record { r = at strip i; g = at strip (i + 1); b = at strip (i + 2) }
+
+-- The pixel at place i.
 abbrev pub pixelAt : List ℕ → ℕ → Pixel
-pixelAt strip i = record { r = at strip (3 * i); g = at strip (3 * i + 1); b = at strip (3 * i + 2) }
+pixelAt strip i = pixelFrom strip (3 * i)
 
 -- Every number of the list is a byte.
 abbrev pub Bytes : List ℕ → Type 0

@@ -2,10 +2,12 @@
 ghost use mathlib.Core.Path.{_≡_};
 ghost use mathlib.Core.Bool.{true};
 ghost use Prim.Native.Nat.{_+_, _-_, _*_, _<_, _≤_};
+ghost use lib.ListN.{length};
 ghost use Rattle.rounding.specs.Near.{near};
 ghost use Rattle.pixel.specs.Methods.{isMethod, methodOf};
 ghost use Rattle.pixel.specs.Move.{naikMurthy, yangLee, byMethod, movedSample, moved};
 ghost use Rattle.pixel.specs.MoveOne.{moveNumber, refusedMove, movedOne};
+ghost use Rattle.pixel.specs.Strip.{pixelFrom};
 ghost use Rattle.pixel.specs.Inner.{AtMostWhite, PixelSample, MovingSample};
 
 // The two methods of source 004: 2.1 and 2.2.
@@ -131,6 +133,18 @@ fn moved_sample(method: Method, s: u64, f: u64, c: u64) -> u8
         return 255;
     }
     by_method(method, s, f, c)
+}
+
+// The pixel whose first byte stands at i.
+pub fn read_pixel(strip: &[u8], i: usize) -> Pixel
+    requires { ⌜ i + 2 < length (now strip) ⌝ }
+    ensures { λ r. ⌜ r ≡ pixelFrom (now (strip .entry)) i ⌝ }
+{
+    Pixel {
+        r: strip[i],
+        g: strip[i + 1],
+        b: strip[i + 2],
+    }
 }
 
 // The intensity of a pixel. The contract hands its range on, so that it is a place in a table of 766.

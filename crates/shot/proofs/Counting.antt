@@ -11,9 +11,9 @@ use lib.Seq.{getD-set-same, getD-set-other}
 use Rattle.tables.specs.Table.{at}
 use Rattle.tables.proofs.Laws.{is-tabulate}
 use Rattle.pixel.specs.Move.{intensity}
-use Rattle.pixel.specs.Strip.{pixelsOf}
+use Rattle.pixel.specs.Strip.{pixelsOf, pixelFrom}
 use Rattle.pixel.specs.declared.Pixel.{Pixel}
-use Rattle.pixel.proofs.Strips.{length-pixels, pixelFrom, drop-pixel}
+use Rattle.pixel.proofs.Strips.{length-pixels, drop-pixel}
 use Rattle.shot.specs.Histogram.{countOf}
 use Rattle.shot.specs.Shot.{withPixels}
 use Rattle.shot.proofs.Counts.{count-le}

@@ -1,122 +1,111 @@
--- `colouring::colour_by_lines` meets its contract: after each pixel, the destination agrees with the coloured strip that far.
-use mathlib.Core.Path.{_≡_, refl, sym, ap, _∙_}
-use Prim.Native.Nat.{ℕ, _-_, _%_, _≤_}
+-- `colouring::colour_by_lines` meets its contract.
+use Prim.Native.Nat.{_-_, _<_}
 use native.Mathlib.Omega.{arith}
-use lib.ListN.{length, take, length-set}
-use lib.Seq.{take-all}
+use lib.ListN.{length}
+use Rattle.colouring.proofs.Stores.{ColouredTo, inside-source, inside-destination, last-pixel, coloured-start, coloured-end, coloured-one, coloured-two}
 use borrow.Author.Needs.{needs}
-use Rattle.pixel.specs.Move.{intensity, eachSample}
-use Rattle.pixel.specs.declared.Pixel.{Pixel}
-use Rattle.pixel.proofs.Strips.{whole-means, pixelFrom}
-use Rattle.colouring.specs.Line.{onLine, lineAt, alongLines}
-use Rattle.colouring.proofs.EachPixel.{each-pixel-from, each-pixel-length, one-pixel-more}
 use Rattle.colouring.proofs.colour_by_lines.Statement.{statement}
 use Rattle.colouring.proofs.colour_by_lines.Tie as tie
 
 abbrev Inv-loop : tie.InvT-loop
-Inv-loop source destination₀ lines i₀ destination i =
-    (i % 3 ≡ 0)
-    × (i ≤ length source)
-    × (length source % 3 ≡ 0)
-    × (length destination ≡ length source)
-    × (take i destination ≡ take i (alongLines lines source))
+Inv-loop source destination₀ lines i₀ destination i = ColouredTo lines source destination i
 
 abbrev μ-loop : tie.MeasureT-loop
 μ-loop source destination₀ lines i₀ destination i = length source - i
 
 loop-holds : tie.Need-loop-holds Inv-loop μ-loop
-loop-holds c =
-    let start = c .before .before in
-    (refl, omega arith, whole-means _ (start .pre .whole), start .pre .same, refl)
+loop-holds c = coloured-start _ _ _ (c .before .before .pre)
 
-shared-slice-read-r : tie.Need-shared-slice-read-r Inv-loop μ-loop
-shared-slice-read-r c = omega arith
+sub-loop : tie.Need-sub-loop Inv-loop μ-loop
+sub-loop c = search needs
 
-add-g : tie.Need-add-g Inv-loop μ-loop
-add-g c = omega arith
+read-pixel-requires : tie.Need-read-pixel-requires Inv-loop μ-loop
+read-pixel-requires c κs = search needs
 
-shared-slice-read-g : tie.Need-shared-slice-read-g Inv-loop μ-loop
-shared-slice-read-g c = omega arith
+add-read-pixel : tie.Need-add-read-pixel Inv-loop μ-loop
+add-read-pixel c = search needs
 
-add-b : tie.Need-add-b Inv-loop μ-loop
-add-b c = omega arith
-
-shared-slice-read-b : tie.Need-shared-slice-read-b Inv-loop μ-loop
-shared-slice-read-b c = omega arith
+read-pixel-requires-2 : tie.Need-read-pixel-requires-2 Inv-loop μ-loop
+read-pixel-requires-2 c κs = search needs
 
 intensity-of-requires : tie.Need-intensity-of-requires Inv-loop μ-loop
 intensity-of-requires c κs = search needs
 
-mul-line : tie.Need-mul-line Inv-loop μ-loop
-mul-line c = search needs
+mul-write-second : tie.Need-mul-write-second Inv-loop μ-loop
+mul-write-second c = search needs
 
-array-copy-out-line : tie.Need-array-copy-out-line Inv-loop μ-loop
-array-copy-out-line c = search needs
+array-copy-out-write-second : tie.Need-array-copy-out-write-second Inv-loop μ-loop
+array-copy-out-write-second c = search needs
 
-on-line-requires : tie.Need-on-line-requires Inv-loop μ-loop
-on-line-requires c κs = search needs
+write-second-requires : tie.Need-write-second-requires Inv-loop μ-loop
+write-second-requires c κs = search needs
 
-slice-write-destination : tie.Need-slice-write-destination Inv-loop μ-loop
-slice-write-destination c = omega arith
+intensity-of-requires-2 : tie.Need-intensity-of-requires-2 Inv-loop μ-loop
+intensity-of-requires-2 c κs = search needs
 
-on-line-requires-2 : tie.Need-on-line-requires-2 Inv-loop μ-loop
-on-line-requires-2 c κs = search needs
+mul-write-pixel : tie.Need-mul-write-pixel Inv-loop μ-loop
+mul-write-pixel c = search needs
 
-add-destination : tie.Need-add-destination Inv-loop μ-loop
-add-destination c = omega arith
+array-copy-out-write-pixel : tie.Need-array-copy-out-write-pixel Inv-loop μ-loop
+array-copy-out-write-pixel c = search needs
 
-slice-write-destination-2 : tie.Need-slice-write-destination-2 Inv-loop μ-loop
-slice-write-destination-2 c = simp length-set (omega arith)
-
-on-line-requires-3 : tie.Need-on-line-requires-3 Inv-loop μ-loop
-on-line-requires-3 c κs = search needs
-
-add-destination-2 : tie.Need-add-destination-2 Inv-loop μ-loop
-add-destination-2 c = omega arith
-
-slice-write-destination-3 : tie.Need-slice-write-destination-3 Inv-loop μ-loop
-slice-write-destination-3 c = simp length-set (omega arith)
+write-pixel-requires : tie.Need-write-pixel-requires Inv-loop μ-loop
+write-pixel-requires c κs = search needs
 
 add-i : tie.Need-add-i Inv-loop μ-loop
-add-i c = omega arith
+add-i c = search needs
 
 loop-less : tie.Need-loop-less Inv-loop μ-loop
-loop-less c = omega arith
+loop-less c = search needs
 
 loop-again : tie.Need-loop-again Inv-loop μ-loop
 loop-again c =
-    let at-sum = c .before .before .before in
-    let here = at-sum .before .before .before .before .before .before .loop in
-    let start = at-sum .before .before .before .before .before .before .before .before .before in
-    let lines = start .args .t1 in
-    let source = start .args .source .now in
-    let (threes, within, whole, same, done) = here .inv in
-    let size = each-pixel-length (λ p. eachSample (onLine (lineAt lines (intensity p))) p) source (start .pre .whole) in
-    let next = each-pixel-from (λ p. eachSample (onLine (lineAt lines (intensity p))) p) source (here .i) threes (omega arith) whole in
-    let p = pixelFrom source (here .i) in
-    let sum = at-sum .before .intensity-of .ensures .0 in
-    let on : (x : ℕ) → onLine (lineAt lines (intensity p)) x ≡ onLine (lineAt lines (at-sum .before .intensity-of .result)) x =
-    λ x. ap (λ (k : ℕ). onLine (lineAt lines k) x) (sym sum) in
-    let r = on (p .r) ∙ sym (c .before .before .on-line .ensures) in
-    let g = on (p .g) ∙ sym (c .before .on-line2 .ensures) in
-    let b = on (p .b) ∙ sym (c .on-line3 .ensures) in
-    let q : Pixel = record { r = c .before .before .on-line .result; g = c .before .on-line2 .result; b = c .on-line3 .result } in
-    let written : pixelFrom (alongLines lines source) (here .i) ≡ q = next ∙ (λ j. record { r = r j; g = g j; b = b j }) in
-    let more = one-pixel-more (here .destination) (alongLines lines source) (here .i) q (omega arith) (omega arith) done written in
-    (omega arith, omega arith, whole, simp length-set same, more)
+    let first = c .before .before in
+    let second = first .before .before .before .before .before .before in
+    let read' = second .before .before .before .before in
+    let read = read' .before in
+    coloured-two (read .before .before .loop .inv) (second .write-second .last .1 .1 .0) _ (read .read-pixel .result) (read' .read-pixel2 .result)
+    (first .before .before .before .intensity-of2 .result) (second .before .before .before .intensity-of .result) (omega arith)
+    (read .read-pixel .ensures) (read' .read-pixel2 .ensures) (first .before .before .before .intensity-of2 .ensures .0)
+    (second .before .before .before .intensity-of .ensures .0) (search needs) (second .write-second .ensures) (first .write-pixel .ensures)
 
 same-length : tie.Need-same-length Inv-loop μ-loop
-same-length c = omega arith
+same-length c = search needs
 
 returns : tie.Need-returns Inv-loop μ-loop
-returns c =
-    let here = c .before .loop in
-    let start = c .before .before .before .before in
-    let lines = start .args .t1 in
-    let source = start .args .source .now in
-    let size = each-pixel-length (λ p. eachSample (onLine (lineAt lines (intensity p))) p) source (start .pre .whole) in
-    let (threes, within, whole, same, done) = here .inv in
-    sym (take-all (here .i) (here .destination) (omega arith)) ∙ done ∙ take-all (here .i) (alongLines lines source) (omega arith)
+returns c = coloured-end (c .before .before .loop .inv) (c .if1 .taken)
+
+read-pixel-requires-3 : tie.Need-read-pixel-requires-3 Inv-loop μ-loop
+read-pixel-requires-3 c κs = inside-source (c .before .before .loop .inv) (omega (arith, c .before .before .loop .inv .within))
+
+intensity-of-requires-3 : tie.Need-intensity-of-requires-3 Inv-loop μ-loop
+intensity-of-requires-3 c κs = search needs
+
+mul-write-pixel-2 : tie.Need-mul-write-pixel-2 Inv-loop μ-loop
+mul-write-pixel-2 c = search needs
+
+array-copy-out-write-pixel-2 : tie.Need-array-copy-out-write-pixel-2 Inv-loop μ-loop
+array-copy-out-write-pixel-2 c = search needs
+
+write-pixel-requires-2 : tie.Need-write-pixel-requires-2 Inv-loop μ-loop
+write-pixel-requires-2 c κs =
+    let here = c .before .before .before .before .before .before .loop in
+    inside-destination (here .inv) (omega (arith, here .inv .within))
+
+same-length-2 : tie.Need-same-length-2 Inv-loop μ-loop
+same-length-2 c = search needs
+
+returns-2 : tie.Need-returns-2 Inv-loop μ-loop
+returns-2 c =
+    let last = c .before .before in
+    let summed = last .before .before .before in
+    let read = summed .before in
+    let here = read .before .before .before .loop in
+    let inside : here .i < length (read .before .before .before .before .before .before .args .source .now) = omega (arith, here .inv .within) in
+    coloured-end
+    (coloured-one (here .inv) _ (read .read-pixel3 .result) (summed .intensity-of3 .result) inside (read .read-pixel3 .ensures)
+    (summed .intensity-of3 .ensures .0) (search needs) (last .write-pixel2 .ensures))
+    (last-pixel (here .inv) inside (omega arith))
 
 pub colour-by-lines-spec : {M : Type 1} → statement M
 colour-by-lines-spec =
@@ -125,24 +114,27 @@ colour-by-lines-spec =
     Inv-loop
     μ-loop
     loop-holds
-    shared-slice-read-r
-    add-g
-    shared-slice-read-g
-    add-b
-    shared-slice-read-b
+    sub-loop
+    read-pixel-requires
+    add-read-pixel
+    read-pixel-requires-2
     intensity-of-requires
-    mul-line
-    array-copy-out-line
-    on-line-requires
-    slice-write-destination
-    on-line-requires-2
-    add-destination
-    slice-write-destination-2
-    on-line-requires-3
-    add-destination-2
-    slice-write-destination-3
+    mul-write-second
+    array-copy-out-write-second
+    write-second-requires
+    intensity-of-requires-2
+    mul-write-pixel
+    array-copy-out-write-pixel
+    write-pixel-requires
     add-i
     loop-less
     loop-again
     same-length
-    returns)
+    returns
+    read-pixel-requires-3
+    intensity-of-requires-3
+    mul-write-pixel-2
+    array-copy-out-write-pixel-2
+    write-pixel-requires-2
+    same-length-2
+    returns-2)

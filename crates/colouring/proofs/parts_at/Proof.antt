@@ -1,10 +1,10 @@
--- `colouring::on_line` meets its contract.
+-- `colouring::parts_at` meets its contract.
 use Prim.Native.Nat.{_^_}
 use native.Mathlib.Nat.{mul-le-mul}
 use native.Mathlib.Omega.{arith}
 use borrow.Author.Needs.{needs}
-use Rattle.colouring.proofs.on_line.Statement.{statement}
-use Rattle.colouring.proofs.on_line.Tie as tie
+use Rattle.colouring.proofs.parts_at.Statement.{statement}
+use Rattle.colouring.proofs.parts_at.Tie as tie
 
 cast-parts : tie.Need-cast-parts
 cast-parts c = search needs
@@ -24,5 +24,6 @@ cast-result c = search needs
 returns : tie.Need-returns
 returns c = search needs
 
-pub on-line-spec : {M : Type 1} → statement M
-on-line-spec = tie.close (tie.spec cast-parts mul-parts cast-parts-2 add-parts cast-result returns)
+pub parts-at-spec : {M : Type 1} → statement M
+parts-at-spec =
+    tie.close (tie.spec cast-parts mul-parts cast-parts-2 add-parts cast-result returns)

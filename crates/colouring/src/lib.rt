@@ -16,7 +16,7 @@ use pixel::Pixel;
 
 // A line has so many parts to a step of a sample: a power of two, so that the division is a shift. Slope and offset are in parts,
 // and so are held in 32 bits: what a sample on the line carries beyond them is a multiple of 256 steps.
-const STEP: u64 = 16777216;
+const STEP: u32 = 16777216;
 
 const HALF: u64 = 8388608;
 
@@ -37,7 +37,7 @@ fn parts_at(line: Line, c: u8) -> u32
 fn on_line(line: Line, c: u8) -> u8
     ensures { λ r. ⌜ r ≡ onLine line c ⌝ }
 {
-    (parts_at(line, c) / 16777216) as u8
+    (parts_at(line, c) / STEP) as u8
 }
 
 // The line of slope n / d that has so many parts at the sample `from`.
@@ -46,7 +46,7 @@ fn line_from(n: u64, d: u64, from: u64, parts: u64) -> Line
     ensures { λ r. ⌜ r ≡ lineFrom n d from parts ⌝ }
 {
     // One part more than the whole ones, so that no multiple falls short.
-    let slope = n * STEP / d + 1;
+    let slope = n * (STEP as u64) / d + 1;
     // 2^40 is more than can be taken away, and nothing in 32 bits.
     let offset = (1099511627776 + parts - from * slope) % 4294967296;
     Line {
@@ -177,7 +177,7 @@ fn write_sample(parts: u32, destination: &mut [u8], i: usize)
     destination[i] = (parts % 256) as u8;
     destination[i + 1] = (parts / 256 % 256) as u8;
     destination[i + 2] = (parts / 65536 % 256) as u8;
-    destination[i + 3] = (parts / 16777216) as u8;
+    destination[i + 3] = (parts / STEP) as u8;
 }
 
 // Writes the second of the two pixels at byte i, moved along its line. The first one's bytes are touched, and so it is written

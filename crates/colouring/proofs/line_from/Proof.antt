@@ -5,6 +5,9 @@ use borrow.Author.Needs.{needs}
 use Rattle.colouring.proofs.line_from.Statement.{statement}
 use Rattle.colouring.proofs.line_from.Tie as tie
 
+cast-slope : tie.Need-cast-slope
+cast-slope c = search needs
+
 mul-slope : tie.Need-mul-slope
 mul-slope c = search needs
 
@@ -36,6 +39,7 @@ pub line-from-spec : {M : Type 1} → statement M
 line-from-spec =
     tie.close
     (tie.spec
+    cast-slope
     mul-slope
     div-slope
     add-slope

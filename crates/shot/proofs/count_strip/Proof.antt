@@ -1,62 +1,102 @@
 -- `shot::count_strip` meets its contract.
-use Prim.Native.Nat.{_-_}
+use mathlib.Core.Path.{_≡_, refl, ap, _∙_}
+use mathlib.Core.List.{List}
+use Prim.Native.Nat.{ℕ, _+_, _-_, _≤_}
 use native.Mathlib.Omega.{arith}
 use borrow.Author.Needs.{needs}
+use borrow.Rule.Slice.PartAt.{part-to-end}
+use denote.Ref.{now}
+use lib.ListN.{length, replicate, getD-replicate}
+use Rattle.tables.specs.Table.{at}
+use Rattle.tables.proofs.Laws.{at-table}
+use Rattle.pixel.specs.Strip.{pixelsOf}
 use Rattle.pixel.proofs.Strips.{whole-means}
-use Rattle.shot.proofs.Counting.{Counting, counting-start, counting-room, counting-more, counting-end}
-use lib.ListN.{length}
+use Rattle.shot.specs.Inner.{together}
+use Rattle.shot.specs.Shot.{withPixels}
+use Rattle.shot.proofs.Counting.{with-length, with-at, Counting, counting-start, pixel-fits, counting-more, counted-fits, rest-fits, counting-rest}
 use Rattle.shot.proofs.count_strip.Statement.{statement}
 use Rattle.shot.proofs.count_strip.Tie as tie
 
 abbrev Inv-loop : tie.InvT-loop
-Inv-loop strip counts₀ i₀ counts i = Counting counts₀ strip counts i
+Inv-loop strip first₀ second₀ third₀ fourth₀ i₀ first second third fourth i =
+    (length first ≡ 766)
+    × (length second ≡ 766)
+    × (length third ≡ 766)
+    × (length fourth ≡ 766)
+    × Counting first₀ strip (together first second third fourth) i
 
 abbrev μ-loop : tie.MeasureT-loop
-μ-loop strip counts₀ i₀ counts i = length strip - i
+μ-loop strip first₀ second₀ third₀ fourth₀ i₀ first second third fourth i = length strip - i
 
 loop-holds : tie.Need-loop-holds Inv-loop μ-loop
-loop-holds c = let start = c .before in counting-start _ _ (search needs) (whole-means _ (start .pre .whole))
+loop-holds c =
+    let start = c .before in
+    let none : (s : ℕ) → s ≤ 765 → at (replicate 766 0) s ≡ 0 = λ s l. getD-replicate 766 s 0 0 (omega arith) in
+    (search needs, refl, refl, refl, counting-start _ _ _ (whole-means _ (start .pre .whole)) (λ s l. omega (arith, none s l)))
 
-shared-slice-read-intensity-of : tie.Need-shared-slice-read-intensity-of Inv-loop μ-loop
-shared-slice-read-intensity-of c = search needs
+sub-loop : tie.Need-sub-loop Inv-loop μ-loop
+sub-loop c = search needs
 
-add-intensity-of : tie.Need-add-intensity-of Inv-loop μ-loop
-add-intensity-of c = search needs
+count-pixel-requires : tie.Need-count-pixel-requires Inv-loop μ-loop
+count-pixel-requires c κs =
+    let at-loop = c .before .before in
+    let inv = at-loop .loop .inv in
+    pixel-fits (inv .4) (at-loop .before .before .pre) (omega arith) _ (inv .0) (λ s l. omega arith)
 
-shared-slice-read-intensity-of-2 : tie.Need-shared-slice-read-intensity-of-2 Inv-loop μ-loop
-shared-slice-read-intensity-of-2 c = omega arith
+-- the first histogram has its pixel
+first-counted : (c : tie.After-count-pixel Inv-loop μ-loop)
+    → let at-loop = c .before .before .before in
+    let start = at-loop .before .before .args in
+    let here = at-loop .loop in
+    Counting (start .start) (now (start .strip)) (together (c .count-pixel .last .0) (here .second) (here .third) (here .fourth)) (here .i + 3)
+first-counted c =
+    counting-more (c .before .before .before .loop .inv .4) (omega arith) _ (λ s l. omega (arith, with-at _ _ (c .count-pixel .ensures) s l)) _ refl
 
-add-intensity-of-2 : tie.Need-add-intensity-of-2 Inv-loop μ-loop
-add-intensity-of-2 c = search needs
+add-count-pixel : tie.Need-add-count-pixel Inv-loop μ-loop
+add-count-pixel c = search needs
 
-shared-slice-read-intensity-of-3 : tie.Need-shared-slice-read-intensity-of-3 Inv-loop μ-loop
-shared-slice-read-intensity-of-3 c = omega arith
+count-pixel-requires-2 : tie.Need-count-pixel-requires-2 Inv-loop μ-loop
+count-pixel-requires-2 c κs =
+    let at-loop = c .before .before .before .before in
+    pixel-fits (first-counted (c .before)) (at-loop .before .before .pre) (omega arith) _ (at-loop .loop .inv .1) (λ s l. omega arith)
 
-intensity-of-requires : tie.Need-intensity-of-requires Inv-loop μ-loop
-intensity-of-requires c κs = search needs
+-- the first two have theirs
+second-counted : (c : tie.After-count-pixel2 Inv-loop μ-loop)
+    → let at-loop = c .before .before .before .before .before in
+    let start = at-loop .before .before .args in
+    let here = at-loop .loop in
+    Counting (start .start) (now (start .strip))
+    (together (c .before .before .count-pixel .last .0) (c .count-pixel2 .last .0) (here .third) (here .fourth))
+    (here .i + 6)
+second-counted c =
+    counting-more (first-counted (c .before .before)) (omega arith) _ (λ s l. omega (arith, with-at _ _ (c .count-pixel2 .ensures) s l)) _ (omega arith)
 
-mul-counts : tie.Need-mul-counts Inv-loop μ-loop
-mul-counts c = search needs
+add-count-pixel-2 : tie.Need-add-count-pixel-2 Inv-loop μ-loop
+add-count-pixel-2 c = search needs
 
-array-read-counts : tie.Need-array-read-counts Inv-loop μ-loop
-array-read-counts c = search needs
+count-pixel-requires-3 : tie.Need-count-pixel-requires-3 Inv-loop μ-loop
+count-pixel-requires-3 c κs =
+    let at-loop = c .before .before .before .before .before .before in
+    pixel-fits (second-counted (c .before)) (at-loop .before .before .pre) (omega arith) _ (at-loop .loop .inv .2) (λ s l. omega arith)
 
-add-counts : tie.Need-add-counts Inv-loop μ-loop
-add-counts c =
-    let at-loop = c .before .before .before .before .before in
-    let start = at-loop .before .before in
-    let sum = c .intensity-of .ensures in
-    omega (
-      arith,
-      counting-room (at-loop .loop .inv) (omega arith) (c .intensity-of .result) (sum .0) (sum .1),
-      start .pre .fit (c .intensity-of .result) (sum .1),
-    )
+-- the first three have theirs
+third-counted : (c : tie.After-count-pixel3 Inv-loop μ-loop)
+    → let at-loop = c .before .before .before .before .before .before .before in
+    let start = at-loop .before .before .args in
+    let here = at-loop .loop in
+    Counting (start .start) (now (start .strip))
+    (together (c .before .before .before .before .count-pixel .last .0) (c .before .before .count-pixel2 .last .0) (c .count-pixel3 .last .0) (here .fourth))
+    (here .i + 9)
+third-counted c =
+    counting-more (second-counted (c .before .before)) (omega arith) _ (λ s l. omega (arith, with-at _ _ (c .count-pixel3 .ensures) s l)) _ (omega arith)
 
-mul-counts-2 : tie.Need-mul-counts-2 Inv-loop μ-loop
-mul-counts-2 c = search needs
+add-count-pixel-3 : tie.Need-add-count-pixel-3 Inv-loop μ-loop
+add-count-pixel-3 c = search needs
 
-array-write-counts : tie.Need-array-write-counts Inv-loop μ-loop
-array-write-counts c = search needs
+count-pixel-requires-4 : tie.Need-count-pixel-requires-4 Inv-loop μ-loop
+count-pixel-requires-4 c κs =
+    let at-loop = c .before .before .before .before .before .before .before .before in
+    pixel-fits (third-counted (c .before)) (at-loop .before .before .pre) (omega arith) _ (at-loop .loop .inv .3) (λ s l. omega arith)
 
 add-i : tie.Need-add-i Inv-loop μ-loop
 add-i c = search needs
@@ -66,11 +106,49 @@ loop-less c = omega arith
 
 loop-again : tie.Need-loop-again Inv-loop μ-loop
 loop-again c =
-    let sum = c .intensity-of .ensures in
-    counting-more (c .before .before .before .before .before .loop .inv) (omega arith) (c .intensity-of .result) (sum .0) (sum .1)
+    let third = c .before .before in
+    let second = third .before .before in
+    let first = second .before .before in (
+      with-length _ _ (first .count-pixel .ensures),
+      with-length _ _ (second .count-pixel2 .ensures),
+      with-length _ _ (third .count-pixel3 .ensures),
+      with-length _ _ (c .count-pixel4 .ensures),
+      counting-more (third-counted third) (omega arith) _ (λ s l. omega (arith, with-at _ _ (c .count-pixel4 .ensures) s l)) _ (omega arith),
+    )
+
+added-requires : tie.Need-added-requires Inv-loop μ-loop
+added-requires c κs = counted-fits (c .before .loop .inv .4) (c .before .before .before .pre)
+
+sub-count-rest : tie.Need-sub-count-rest Inv-loop μ-loop
+sub-count-rest c = search needs
+
+part-count-rest-start : tie.Need-part-count-rest-start Inv-loop μ-loop
+part-count-rest-start c = search needs
+
+part-count-rest-end : tie.Need-part-count-rest-end Inv-loop μ-loop
+part-count-rest-end c = search needs
+
+-- what the four make, added up
+added-at : (c : tie.After-added Inv-loop μ-loop) → let here = c .before .before .loop in
+    (s : ℕ) → s ≤ 765 → at (c .added .result) s ≡ together (here .first) (here .second) (here .third) (here .fourth) s
+added-at c s l =
+    let here = c .before .before .loop in
+    at-table (together (here .first) (here .second) (here .third) (here .fourth)) 766 (c .added .result) (c .added .ensures) s (omega arith)
+
+count-rest-requires : tie.Need-count-rest-requires Inv-loop μ-loop
+count-rest-requires c κs =
+    let at-loop = c .before .before .before in
+    let start = at-loop .before .before in
+    rw (part-to-end (start .args .strip .now) (at-loop .loop .i))
+    (rest-fits (at-loop .loop .inv .4) _ (added-at (c .before)) (start .pre))
 
 returns : tie.Need-returns Inv-loop μ-loop
-returns c = counting-end (c .before .loop .inv) (omega arith)
+returns c =
+    let at-loop = c .before .before .before .before in
+    let strip = at-loop .before .before .args .strip .now in
+    c .count-rest .ensures
+    ∙ ap (λ (rest : List ℕ). withPixels (c .before .before .added .result) (pixelsOf rest)) (part-to-end strip (at-loop .loop .i))
+    ∙ counting-rest (at-loop .loop .inv .4) _ (added-at (c .before .before))
 
 pub count-strip-spec : {M : Type 1} → statement M
 count-strip-spec =
@@ -79,18 +157,20 @@ count-strip-spec =
     Inv-loop
     μ-loop
     loop-holds
-    shared-slice-read-intensity-of
-    add-intensity-of
-    shared-slice-read-intensity-of-2
-    add-intensity-of-2
-    shared-slice-read-intensity-of-3
-    intensity-of-requires
-    mul-counts
-    array-read-counts
-    add-counts
-    mul-counts-2
-    array-write-counts
+    sub-loop
+    count-pixel-requires
+    add-count-pixel
+    count-pixel-requires-2
+    add-count-pixel-2
+    count-pixel-requires-3
+    add-count-pixel-3
+    count-pixel-requires-4
     add-i
     loop-less
     loop-again
+    added-requires
+    sub-count-rest
+    part-count-rest-start
+    part-count-rest-end
+    count-rest-requires
     returns)

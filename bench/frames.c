@@ -71,24 +71,26 @@ static void scene_pixel(size_t x, size_t y, double u, double v, uint8_t *p)
     }
 }
 
-const char *frame_kind(int kind)
+const char *frame_name(enum frame_kind kind)
 {
-    static const char *const kinds[FRAME_KINDS] = {"random", "smooth", "flat", "real-looking"};
-    return kinds[kind];
+    static const char *const names[FRAME_KINDS] = {
+        [RANDOM] = "random", [SMOOTH] = "smooth", [FLAT] = "flat", [REAL_LOOKING] = "real-looking"};
+    return names[kind];
 }
 
-void make_frame(int kind, size_t width, size_t height, uint8_t *pixels)
+static void make_pixel(enum frame_kind kind, size_t x, size_t y, double u, double v, uint8_t *p)
 {
-    for (size_t y = 0; y < height; y++) {
-        for (size_t x = 0; x < width; x++) {
-            uint8_t *p = pixels + 3 * (y * width + x);
-            double u = (double)x / (double)width, v = (double)y / (double)height;
-            switch (kind) {
-            case 0: random_pixel(x, y, p); break;
-            case 1: smooth_pixel(u, v, p); break;
-            case 2: flat_pixel(p); break;
-            default: scene_pixel(x, y, u, v, p); break;
-            }
-        }
+    switch (kind) {
+    case RANDOM: random_pixel(x, y, p); break;
+    case SMOOTH: smooth_pixel(u, v, p); break;
+    case FLAT: flat_pixel(p); break;
+    default: scene_pixel(x, y, u, v, p); break;
     }
+}
+
+void make_frame(enum frame_kind kind, size_t width, size_t height, uint8_t *pixels)
+{
+    for (size_t y = 0; y < height; y++)
+        for (size_t x = 0; x < width; x++)
+            make_pixel(kind, x, y, (double)x / (double)width, (double)y / (double)height, pixels + 3 * (y * width + x));
 }

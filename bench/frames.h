@@ -5,12 +5,12 @@
 #include <stddef.h>
 #include <stdint.h>
 
-enum { FRAME_KINDS = 4 };
+/* The kinds of frame, and how many they are. */
+enum frame_kind { RANDOM, SMOOTH, FLAT, REAL_LOOKING, FRAME_KINDS };
 
-/* What kind a frame is: "random", "smooth", "flat" or "real-looking". */
-const char *frame_kind(int kind);
+const char *frame_name(enum frame_kind kind);
 
 /* Fills width × height pixels of three bytes. */
-void make_frame(int kind, size_t width, size_t height, uint8_t *pixels);
+void make_frame(enum frame_kind kind, size_t width, size_t height, uint8_t *pixels);
 
 #endif

@@ -149,15 +149,26 @@ static Times times_of(double *runs)
     return (Times){.best = runs[0], .median = runs[RUNS / 2]};
 }
 
-/* In turns, so that what else the machine does falls on both. */
+/* In turns, and each first in every other turn, so that what else the machine does falls on both. */
 static Both time_both(Job *ours, Job *plain, Work *w)
 {
     double our_runs[RUNS], plain_runs[RUNS];
     for (int k = 0; k < RUNS; k++) {
-        our_runs[k] = seconds(ours, w);
+        if (k % 2 == 0)
+            our_runs[k] = seconds(ours, w);
         plain_runs[k] = seconds(plain, w);
+        if (k % 2 == 1)
+            our_runs[k] = seconds(ours, w);
     }
     return (Both){.ours = times_of(our_runs), .plain = times_of(plain_runs)};
+}
+
+static Times time_one(Job *job, Work *w)
+{
+    double runs[RUNS];
+    for (int k = 0; k < RUNS; k++)
+        runs[k] = seconds(job, w);
+    return times_of(runs);
 }
 
 static Times scaled(Times t, double by)
@@ -170,6 +181,7 @@ static Both both_scaled(Both b, double by)
     return (Both){.ours = scaled(b.ours, by), .plain = scaled(b.plain, by)};
 }
 
+/* The difference of the bests, and of the medians. */
 static Times less(Times a, Times b)
 {
     return (Times){.best = a.best - b.best, .median = a.median - b.median};
@@ -202,8 +214,8 @@ static void take_few(const uint8_t *source, size_t pixels, uint8_t *few)
 }
 
 /*
- * A curve call takes a time for each pixel (measuring) and a fixed time (fixing). A call with all pixels and one with a thousand of
- * them tell the two apart.
+ * A curve call takes a time for each pixel (measuring) and a fixed time (fixing, and clearing and adding up the histograms). A call
+ * with all pixels and one with a thousand of them tell the two apart.
  */
 static void curve_rows(const char *frame, Work *w)
 {
@@ -232,9 +244,8 @@ static void colour_rows(const char *frame, Work *w)
     row(frame, "colouring, method 1", pixels, time_both(our_colour, c_colour, w), 6);
     w->method = 2;
     row(frame, "colouring, method 2", pixels, time_both(our_colour, c_colour, w), 6);
-    Both copy = time_both(c_copy, c_copy, w);
-    double best = 1e9 * copy.plain.best / (double)pixels;
-    printf("| %s | plain copy | | | %#.3g | %#.3g | | | %.1f |\n", frame, best, 1e9 * copy.plain.median / (double)pixels, 6 / best);
+    Times copy = scaled(time_one(c_copy, w), 1e9 / (double)pixels);
+    printf("| %s | plain copy | | | %#.3g | %#.3g | | | %.1f |\n", frame, copy.best, copy.median, 6 / copy.best);
 }
 
 /* Measuring, fixing (the cube's curve) and colouring (method 2), as one frame takes it. */
@@ -258,20 +269,20 @@ static void frame_tables(size_t width, size_t height, Work *w, uint8_t *source, 
 {
     Both whole[FRAME_KINDS];
     printf("\n### %zu × %zu\n\n", width, height);
-    printf("| frame | job | ours, best | median | plain C, best | median | C / ours, best | median | GB/s |\n");
+    printf("| frame | job | ours, best, ns | median | plain C, best, ns | median | C / ours, best | median | GB/s |\n");
     printf("|---|---|---|---|---|---|---|---|---|\n");
     w->length = 3 * width * height;
-    for (int kind = 0; kind < FRAME_KINDS; kind++) {
+    for (enum frame_kind kind = 0; kind < FRAME_KINDS; kind++) {
         make_frame(kind, width, height, source);
         same_bytes(w, expected);
-        curve_rows(frame_kind(kind), w);
-        colour_rows(frame_kind(kind), w);
+        curve_rows(frame_name(kind), w);
+        colour_rows(frame_name(kind), w);
         whole[kind] = time_whole(w);
     }
     printf("\n| frame | ours, best, ms | median | share of the slot | plain C, best, ms | median | share of the slot |\n");
     printf("|---|---|---|---|---|---|---|\n");
-    for (int kind = 0; kind < FRAME_KINDS; kind++)
-        whole_row(frame_kind(kind), whole[kind]);
+    for (enum frame_kind kind = 0; kind < FRAME_KINDS; kind++)
+        whole_row(frame_name(kind), whole[kind]);
     fflush(stdout);
 }
 
@@ -291,14 +302,15 @@ static void size_row(Work *w)
            colour.plain.best);
 }
 
-static void size_table(Work *w, uint8_t *source)
+static void size_table(Work *w, uint8_t *source, uint8_t *expected)
 {
-    make_frame(FRAME_KINDS - 1, 3840, 2160, source);
+    make_frame(REAL_LOOKING, 3840, 2160, source);
     printf("\n### By size\n\n");
     printf("| pixels | curve, best, µs | median | colour, best, µs | median | both, ns a pixel | plain C: curve | colour |\n");
     printf("|---|---|---|---|---|---|---|---|\n");
     for (size_t k = 0; k < SIZE_COUNT; k++) {
         w->length = 3 * SIZES[k];
+        same_bytes(w, expected);
         size_row(w);
     }
 }
@@ -306,7 +318,7 @@ static void size_table(Work *w, uint8_t *source)
 /* Every kind of frame, at every size. */
 static void check(Work *w, uint8_t *source, uint8_t *expected)
 {
-    for (int kind = 0; kind < FRAME_KINDS; kind++) {
+    for (enum frame_kind kind = 0; kind < FRAME_KINDS; kind++) {
         make_frame(kind, 3840, 2160, source);
         for (size_t k = 0; k < SIZE_COUNT; k++) {
             w->length = 3 * SIZES[k];
@@ -330,14 +342,19 @@ static uint8_t *picture(void)
 
 int main(int count, char **arguments)
 {
+    int checking = count == 2 && strcmp(arguments[1], "check") == 0;
+    if (count != 1 && !checking) {
+        fprintf(stderr, "usage: bench [check]\n");
+        return 2;
+    }
     uint8_t *source = picture(), *destination = picture(), *expected = picture();
     Work w = {.source = source, .destination = destination};
-    if (count == 2 && strcmp(arguments[1], "check") == 0) {
+    if (checking) {
         check(&w, source, expected);
         return 0;
     }
     frame_tables(1920, 1080, &w, source, expected);
     frame_tables(3840, 2160, &w, source, expected);
-    size_table(&w, source);
+    size_table(&w, source, expected);
     return 0;
 }

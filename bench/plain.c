@@ -77,49 +77,57 @@ void plain_curve(const uint8_t *strip, size_t length, uint32_t choice, uint8_t *
 
 /* ---- Colouring ---- */
 
-/* A sample c of a pixel of sum s, moved to f by Naik and Murthy. */
-static uint8_t naik_murthy(uint32_t s, uint32_t f, uint32_t c)
+/* The cases are told apart once a pixel, and each then has three divisions: up from black, near(x × n / d) for x above `from` … */
+static void up(const uint8_t *pixel, uint32_t from, uint32_t n, uint32_t d, uint8_t *moved)
+{
+    for (int k = 0; k < 3; k++)
+        moved[k] = (uint8_t)near((pixel[k] - from) * n, d);
+}
+
+/* … or down from white, 255 − near(x × n / d) for x below `from`. */
+static void down(const uint8_t *pixel, uint32_t from, uint32_t n, uint32_t d, uint8_t *moved)
+{
+    for (int k = 0; k < 3; k++)
+        moved[k] = (uint8_t)(255 - near((from - pixel[k]) * n, d));
+}
+
+/* A pixel of sum s, moved to f by Naik and Murthy. */
+static void naik_murthy(uint32_t s, uint32_t f, const uint8_t *pixel, uint8_t *moved)
 {
     if (f <= s)
-        return (uint8_t)near(c * f, s);
-    return (uint8_t)(255 - near((255 - c) * (WHITE - f), WHITE - s));
+        up(pixel, 0, f, s, moved);
+    else
+        down(pixel, 255, WHITE - f, WHITE - s, moved);
 }
 
 /* The same by Yang and Lee. */
-static uint8_t yang_lee(uint32_t s, uint32_t f, uint32_t c)
+static void yang_lee(uint32_t s, uint32_t f, const uint8_t *pixel, uint8_t *moved)
 {
-    if (s <= 255) {
-        if (f <= 255)
-            return (uint8_t)near(c * f, s);
-        return (uint8_t)(255 - near((WHITE - f) * (s - c), 2 * s));
-    }
-    if (s <= 510)
-        return naik_murthy(s, f, c);
-    uint32_t d = 255 - c;
     uint32_t t = WHITE - s;
-    if (f <= 510)
-        return (uint8_t)near(f * (t - d), 2 * t);
-    return (uint8_t)(255 - near((WHITE - f) * d, t));
+    if (s <= 255 && f <= 255)
+        up(pixel, 0, f, s, moved);
+    else if (s <= 255)
+        down(pixel, s, WHITE - f, 2 * s, moved);
+    else if (s <= 510)
+        naik_murthy(s, f, pixel, moved);
+    else if (f <= 510)
+        up(pixel, s - 510, f, 2 * t, moved);
+    else
+        down(pixel, 255, WHITE - f, t, moved);
 }
 
-/* Black and white stay. */
-static uint8_t moved(uint32_t method, uint32_t s, uint32_t f, uint32_t c)
-{
-    if (s == 0 || s == WHITE)
-        return (uint8_t)c;
-    return method == 1 ? naik_murthy(s, f, c) : yang_lee(s, f, c);
-}
-
-/* Called with a constant method, so that the loop does not ask for it at each sample. */
+/* Called with a constant method, so that the loop does not ask for it at each pixel. Black and white stay. */
 static inline void colour_by(uint32_t method, const uint16_t *entries, const uint8_t *restrict source, size_t length,
                              uint8_t *restrict destination)
 {
     for (size_t i = 0; i < length; i += 3) {
         uint32_t s = (uint32_t)source[i] + source[i + 1] + source[i + 2];
-        uint32_t f = entries[s];
-        destination[i] = moved(method, s, f, source[i]);
-        destination[i + 1] = moved(method, s, f, source[i + 1]);
-        destination[i + 2] = moved(method, s, f, source[i + 2]);
+        if (s == 0 || s == WHITE)
+            up(source + i, 0, 1, 1, destination + i);
+        else if (method == 1)
+            naik_murthy(s, entries[s], source + i, destination + i);
+        else
+            yang_lee(s, entries[s], source + i, destination + i);
     }
 }
 

@@ -17,7 +17,7 @@ use Rattle.colouring.specs.declared.Line.{Line}
 use Rattle.colouring.proofs.EachPixel.{each-pixel-from, each-pixel-length}
 
 -- one store at i
-pub written-one : (l : List ℕ) (i a : ℕ) → i < length l → WrittenFrom l (set l i a) i i (a ∷ [])
+written-one : (l : List ℕ) (i a : ℕ) → i < length l → WrittenFrom l (set l i a) i i (a ∷ [])
 written-one l i a inside =
     record {
       kept = take-set-le i l i a (omega arith);

@@ -40,11 +40,11 @@ upFrom n d from = lineFrom n d from half
 abbrev pub downTo : ℕ → ℕ → ℕ → Line
 downTo n d from = lineFrom n d from (2 ^ 32 - 1 - half)
 
--- What these require: a slope of at most 255 over one of document 01's divisors.
+-- What these require: d is one of document 01's divisors, and n / d at most 255.
 pub record Slopes (n d from : ℕ) : Type 0 where
   pub positive : 0 < d
   pub divisor : d ≤ 1530
-  pub slope : n ≤ 255 * d
+  pub steep : n ≤ 255 * d
   pub byte : from ≤ 255
 
 -- The pixel of intensity s is neither black nor white, and f is a target.

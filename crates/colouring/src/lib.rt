@@ -1,10 +1,9 @@
 // Colouring a strip by a curve and a method (document 01, "Moving a pixel"). All pixels of one intensity go to one target, and their
-// written samples then lie on one line: 766 divisions make the lines of a colouring, and a pixel takes none.
+// written samples then lie on one line: a line takes at most one division, and a pixel none.
 ghost use mathlib.Core.Path.{_≡_};
 ghost use mathlib.Core.List.{[], _∷_};
 ghost use Prim.Native.Nat.{_+_, _/_, _^_, _<_, _≤_};
 ghost use lib.ListN.{length};
-ghost use Rattle.tables.specs.Table.{at};
 ghost use Rattle.pixel.specs.Move.{eachSample, naikMurthy, yangLee, byMethod};
 ghost use Rattle.pixel.specs.Strip.{bytesOf};
 ghost use Rattle.curve.specs.Curve.{EntriesInRange};
@@ -14,11 +13,21 @@ ghost use Rattle.colouring.specs.Line.{partsAt, onLine, lineFrom, upFrom
 use pixel::Method;
 use pixel::Pixel;
 
-// A line has so many parts to a step of a sample: a power of two, so that the division is a shift. Slope and offset are in parts,
-// and so are held in 32 bits: what a sample on the line carries beyond them is a multiple of 256 steps.
+// A line has so many parts to a step of a sample, 2^24: a power of two, so that the division is a shift.
 const STEP: u32 = 16777216;
 
 const HALF: u64 = 8388608;
+
+// Parts are held in 32 bits, which is 256 steps: what goes beyond is a multiple of them and does not change a sample.
+const PERIOD: u64 = 4294967296;
+
+const LAST_PART: u64 = 4294967295;
+
+// 256 periods: more parts than an offset takes away.
+const PERIODS: u64 = 1099511627776;
+
+// The parts of 255 steps.
+const WHITE: u32 = 4278190080;
 
 struct Line {
     slope: u32,
@@ -30,7 +39,7 @@ fn parts_at(line: Line, c: u8) -> u32
     ensures { λ r. ⌜ r ≡ partsAt line c ⌝ }
 {
     let parts = (c as u64) * (line.slope as u64) + (line.offset as u64);
-    (parts % 4294967296) as u32
+    (parts % PERIOD) as u32
 }
 
 // The sample on the line at c: its whole steps.
@@ -47,8 +56,8 @@ fn line_from(n: u64, d: u64, from: u64, parts: u64) -> Line
 {
     // One part more than the whole ones, so that no multiple falls short.
     let slope = n * (STEP as u64) / d + 1;
-    // 2^40 is more than can be taken away, and nothing in 32 bits.
-    let offset = (1099511627776 + parts - from * slope) % 4294967296;
+    // The offset is negative as a rule; whole periods are added, so that nothing is cut off.
+    let offset = (PERIODS + parts - from * slope) % PERIOD;
     Line {
         slope: slope as u32,
         offset: offset as u32,
@@ -68,7 +77,7 @@ fn down_to(n: u64, d: u64, from: u64) -> Line
     requires { ⌜ Slopes n d from ⌝ }
     ensures { λ r. ⌜ r ≡ downTo n d from ⌝ }
 {
-    line_from(n, d, from, 4294967295 - HALF)
+    line_from(n, d, from, LAST_PART - HALF)
 }
 
 // Method 1: the line of the pixels of intensity s, moved to the target f.
@@ -144,7 +153,7 @@ fn line_of(method: Method, s: u64, f: u64) -> Line
     if s == 765 {
         return Line {
             slope: 0,
-            offset: 4278190080,
+            offset: WHITE,
         };
     }
     by_method(method, s, f)
@@ -206,16 +215,26 @@ fn colour_by_lines(lines: [Line; 766], source: &[u8], destination: &mut [u8])
     requires { ⌜ SameSize (now source) (now destination) ⌝ }
     ensures { λ _. ⌜ now (destination .exit) ≡ alongLines lines (now (source .entry)) ⌝ }
 {
+    let pairs = source.len() - source.len() % 6;
     let mut i: usize = 0;
-    while 6 <= source.len() - i {
+    while i < pairs {
         // Two are read before one is written: where source and destination start at the same place of a page, reading the first
         // would wait for the stores that touch its place.
         let p = pixel::read_pixel(source, i);
         let q = pixel::read_pixel(source, i + 3);
+        // A line is read field by field: read whole, it would be one number that is then split.
         let second = pixel::intensity_of(q.r, q.g, q.b);
-        write_second(lines[second], q, destination, i);
+        let q_line = Line {
+            slope: lines[second].slope,
+            offset: lines[second].offset,
+        };
+        write_second(q_line, q, destination, i);
         let first = pixel::intensity_of(p.r, p.g, p.b);
-        write_pixel(lines[first], p, destination, i);
+        let p_line = Line {
+            slope: lines[first].slope,
+            offset: lines[first].offset,
+        };
+        write_pixel(p_line, p, destination, i);
         i += 6;
     }
     if i == source.len() {

@@ -3,13 +3,13 @@ use mathlib.Core.Path.{_≡_}
 use mathlib.Core.Logic.{⊎-elim}
 use mathlib.Core.List.{List}
 use Prim.Native.Nat.{ℕ, zero, suc, _+_, _-_, _≤_, _<_, zero-le}
-use native.Mathlib.Nat.{le-antisymm, le-refl, le-trans, le-of-lt, lt-of-le-of-lt, lt-of-lt-of-le, lt-irrefl, le-of-suc-le-suc, not-suc-le-zero, eq-or-lt-of-le}
+use native.Mathlib.Nat.{le-antisymm, le-refl, le-trans, le-of-lt, lt-of-lt-of-le, le-of-suc-le-suc, not-suc-le-zero, eq-or-lt-of-le}
 use native.Mathlib.Omega.{arith}
 use borrow.Author.Tests.{lt-ltb, le-ltb}
 use Rattle.tables.specs.Table.{at}
 use Rattle.tables.proofs.Cases.{either}
 use Rattle.curve.specs.Histogram.{NonDecreasing}
-use Rattle.curve.specs.Inner.{Level, Bounding}
+use Rattle.curve.specs.Inner.{Plateau, Bounding}
 use Rattle.curve.specs.Nearest.{distance, Nearest, nearer, nearestPlace, NearestMeans}
 
 -- of two values b ≤ a, an aim that is nearer to a lies above their middle
@@ -100,8 +100,8 @@ nearest-same g g' n aim same = nearest-unique (carry (nearest-is g n aim)) (near
 
 -- The walk along g: `lower` follows `upper` where g rises, and stays where g is level.
 module _ {g : List ℕ} where
-  pub level-start : Level g 0 0
-  level-start =
+  pub plateau-start : Plateau g 0 0
+  plateau-start =
       record {
         within = zero-le;
         ordered = zero-le;
@@ -110,9 +110,9 @@ module _ {g : List ℕ} where
         less = λ j h. absurd (not-suc-le-zero h);
       }
 
-  module _ {lower upper : ℕ} (up : NonDecreasing (at g)) (l : Level g lower upper) (here : upper < 766) where
-    pub level-rises : at g lower < at g upper → Level g upper (upper + 1)
-    level-rises more =
+  module _ {lower upper : ℕ} (up : NonDecreasing (at g)) (l : Plateau g lower upper) (here : upper < 766) where
+    pub plateau-rises : at g lower < at g upper → Plateau g upper (upper + 1)
+    plateau-rises more =
         record {
           within = omega arith;
           ordered = omega arith;
@@ -124,8 +124,8 @@ module _ {g : List ℕ} where
               (λ q. omega (arith, l .less j q));
         }
 
-    pub level-stays : at g upper ≤ at g lower → Level g lower (upper + 1)
-    level-stays least =
+    pub plateau-stays : at g upper ≤ at g lower → Plateau g lower (upper + 1)
+    plateau-stays least =
         record {
           within = omega arith;
           ordered = omega (arith, l .ordered);

@@ -10,7 +10,7 @@ abbrev pub Below : List ℕ → ℕ → ℕ → Type 0
 Below g aim upper = (j : ℕ) → j < upper → at g j < aim
 
 -- `lower` is the first place that holds as much as the one before `upper`; both are 0 where there is none.
-pub record Level (g : List ℕ) (lower upper : ℕ) : Type 0 where
+pub record Plateau (g : List ℕ) (lower upper : ℕ) : Type 0 where
   pub within : upper ≤ 766
   pub ordered : lower ≤ upper
   pub inside : 0 < upper → lower < upper
@@ -19,7 +19,7 @@ pub record Level (g : List ℕ) (lower upper : ℕ) : Type 0 where
 
 -- That, and `upper` is the first of the 766 places that holds at least the aim, or 766.
 pub record Bounding (g : List ℕ) (aim lower upper : ℕ) : Type 0 where
-  pub level : Level g lower upper
+  pub level : Plateau g lower upper
   pub below : Below g aim upper
   pub above : (j : ℕ) → upper ≤ j → j ≤ 765 → aim ≤ at g j
 

@@ -7,7 +7,7 @@ ghost use Rattle.targets.specs.Cube.{G};
 ghost use Rattle.curve.specs.Choices.{isChoice, choiceOf};
 ghost use Rattle.curve.specs.Curve.{shareOf, wholeOf, shareAt, equalisedEntry, withEnds, toneCurve};
 ghost use Rattle.curve.specs.Histogram.{NonDecreasing, cumulative};
-ghost use Rattle.curve.specs.Inner.{Level, Below, Bounding, HistogramOf, Shares, AimsFit};
+ghost use Rattle.curve.specs.Inner.{Plateau, Below, Bounding, HistogramOf, Shares, AimsFit};
 ghost use Rattle.curve.specs.Nearest.{nearestPlace};
 
 // The curve choices: the cube's (equation 14 of source 004) and the equalised one (equation 5).
@@ -44,7 +44,7 @@ struct Bounds {
 // The bounds of an aim, from those of an aim that is no larger. So the bounds of many aims, in order, are found in one walk.
 fn bounds_from(g: &[u64; 766], aim: u64, from: Bounds) -> Bounds
     requires { ⌜ NonDecreasing (at (now g)) ⌝ }
-    requires { ⌜ Level (now g) (from .lower) (from .upper) × Below (now g) aim (from .upper) ⌝ }
+    requires { ⌜ Plateau (now g) (from .lower) (from .upper) × Below (now g) aim (from .upper) ⌝ }
     ensures { λ r. ⌜ Bounding (now (g .entry)) aim (r .lower) (r .upper) ⌝ }
 {
     let mut lower = from.lower;
@@ -193,9 +193,9 @@ pub fn tone_curve(choice: Choice, pixels: u32, counts: &[u32; 766]) -> [u16; 766
     let shares = shares_of(counts);
     match choice {
         Choice::Cube => {
-            let targets = targets::all();
-            let scaled = scaled_by(whole, targets);
-            with_ends(nearest_entries(&scaled, targets[765], &shares))
+            let cube = targets::table();
+            let scaled = scaled_by(whole, cube);
+            with_ends(nearest_entries(&scaled, cube[765], &shares))
         }
         Choice::Equalised => with_ends(equalised_entries(whole, &shares)),
     }

@@ -155,7 +155,7 @@ pub fn intensity_of(r: u8, g: u8, b: u8) -> usize
 }
 
 // The pixel, moved to a target of at most 765.
-pub fn move_pixel(method: Method, pixel: Pixel, target: u32) -> Pixel
+fn move_pixel(method: Method, pixel: Pixel, target: u32) -> Pixel
     requires { ⌜ target ≤ 765 ⌝ }
     ensures { λ r. ⌜ r ≡ moved method pixel target ⌝ }
 {

@@ -1,7 +1,7 @@
 // A shot: opened empty, measured strip by strip, fixed once, and then used to colour strips (document 01, "The ground covered").
 ghost use mathlib.Core.Path.{_≡_};
 ghost use mathlib.Core.List.{[], _∷_};
-ghost use Prim.Native.Nat.{_+_, _≤_};
+ghost use Prim.Native.Nat.{_≤_};
 ghost use lib.ListN.{length};
 ghost use Rattle.refusal.specs.Refusal.{firstOf};
 ghost use Rattle.tables.specs.Table.{tabulate};

@@ -773,7 +773,7 @@ const TARGETS: [u64; 766] = [
 ];
 
 // All of them, G(k) at place k: handed over whole, since a constant is copied whole at each use.
-pub fn all() -> [u64; 766]
+pub fn table() -> [u64; 766]
     ensures { λ r. ⌜ r ≡ tabulate G 766 ⌝ }
 {
     TARGETS

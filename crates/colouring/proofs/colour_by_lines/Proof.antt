@@ -1,5 +1,6 @@
 -- `colouring::colour_by_lines` meets its contract.
-use Prim.Native.Nat.{_-_, _<_}
+use mathlib.Core.Path.{_≡_, refl}
+use Prim.Native.Nat.{_-_, _%_, _≤_, _<_}
 use native.Mathlib.Omega.{arith}
 use lib.ListN.{length}
 use Rattle.colouring.proofs.Stores.{ColouredTo, inside-source, inside-destination, last-pixel, coloured-start, coloured-end, coloured-one, coloured-two}
@@ -8,16 +9,17 @@ use Rattle.colouring.proofs.colour_by_lines.Statement.{statement}
 use Rattle.colouring.proofs.colour_by_lines.Tie as tie
 
 abbrev Inv-loop : tie.InvT-loop
-Inv-loop source destination₀ lines i₀ destination i = ColouredTo lines source destination i
+Inv-loop source destination₀ lines pairs i₀ destination i =
+    ColouredTo lines source destination i × (i % 6 ≡ 0) × (i ≤ pairs) × (pairs ≡ length source - length source % 6)
 
 abbrev μ-loop : tie.MeasureT-loop
-μ-loop source destination₀ lines i₀ destination i = length source - i
+μ-loop source destination₀ lines pairs i₀ destination i = pairs - i
+
+sub-pairs : tie.Need-sub-pairs Inv-loop μ-loop
+sub-pairs c = search needs
 
 loop-holds : tie.Need-loop-holds Inv-loop μ-loop
-loop-holds c = coloured-start _ _ _ (c .before .before .pre)
-
-sub-loop : tie.Need-sub-loop Inv-loop μ-loop
-sub-loop c = search needs
+loop-holds c = (coloured-start _ _ _ (c .before .before .pre), refl, omega arith, refl)
 
 read-pixel-requires : tie.Need-read-pixel-requires Inv-loop μ-loop
 read-pixel-requires c κs = search needs
@@ -31,11 +33,17 @@ read-pixel-requires-2 c κs = search needs
 intensity-of-requires : tie.Need-intensity-of-requires Inv-loop μ-loop
 intensity-of-requires c κs = search needs
 
-mul-write-second : tie.Need-mul-write-second Inv-loop μ-loop
-mul-write-second c = search needs
+mul-t19 : tie.Need-mul-t19 Inv-loop μ-loop
+mul-t19 c = search needs
 
-array-copy-out-write-second : tie.Need-array-copy-out-write-second Inv-loop μ-loop
-array-copy-out-write-second c = search needs
+element-copy-out-t22 : tie.Need-element-copy-out-t22 Inv-loop μ-loop
+element-copy-out-t22 c = search needs
+
+mul-t23 : tie.Need-mul-t23 Inv-loop μ-loop
+mul-t23 c = search needs
+
+element-copy-out-t26 : tie.Need-element-copy-out-t26 Inv-loop μ-loop
+element-copy-out-t26 c = search needs
 
 write-second-requires : tie.Need-write-second-requires Inv-loop μ-loop
 write-second-requires c κs = search needs
@@ -43,11 +51,17 @@ write-second-requires c κs = search needs
 intensity-of-requires-2 : tie.Need-intensity-of-requires-2 Inv-loop μ-loop
 intensity-of-requires-2 c κs = search needs
 
-mul-write-pixel : tie.Need-mul-write-pixel Inv-loop μ-loop
-mul-write-pixel c = search needs
+mul-t19-2 : tie.Need-mul-t19-2 Inv-loop μ-loop
+mul-t19-2 c = search needs
 
-array-copy-out-write-pixel : tie.Need-array-copy-out-write-pixel Inv-loop μ-loop
-array-copy-out-write-pixel c = search needs
+element-copy-out-t22-2 : tie.Need-element-copy-out-t22-2 Inv-loop μ-loop
+element-copy-out-t22-2 c = search needs
+
+mul-t23-2 : tie.Need-mul-t23-2 Inv-loop μ-loop
+mul-t23-2 c = search needs
+
+element-copy-out-t26-2 : tie.Need-element-copy-out-t26-2 Inv-loop μ-loop
+element-copy-out-t26-2 c = search needs
 
 write-pixel-requires : tie.Need-write-pixel-requires Inv-loop μ-loop
 write-pixel-requires c κs = search needs
@@ -61,36 +75,45 @@ loop-less c = search needs
 loop-again : tie.Need-loop-again Inv-loop μ-loop
 loop-again c =
     let first = c .before .before in
-    let second = first .before .before .before .before .before .before in
-    let read' = second .before .before .before .before in
+    let summed = first .before .before in
+    let second = summed .before .before .before in
+    let summed' = second .before .before in
+    let read' = summed' .before in
     let read = read' .before in
-    coloured-two (read .before .before .loop .inv) (second .write-second .last .1 .1 .0) _ (read .read-pixel .result) (read' .read-pixel2 .result)
-    (first .before .before .before .intensity-of2 .result) (second .before .before .before .intensity-of .result) (omega arith)
-    (read .read-pixel .ensures) (read' .read-pixel2 .ensures) (first .before .before .before .intensity-of2 .ensures .0)
-    (second .before .before .before .intensity-of .ensures .0) (search needs) (second .write-second .ensures) (first .write-pixel .ensures)
+    let here = read .before .before .loop in (
+      coloured-two (here .inv .0) (second .write-second .last .1 .1 .0) _ (read .read-pixel .result) (read' .read-pixel2 .result)
+          (summed .intensity-of2 .result) (summed' .intensity-of .result) (omega arith) (read .read-pixel .ensures) (read' .read-pixel2 .ensures)
+          (summed .intensity-of2 .ensures .0) (summed' .intensity-of .ensures .0) (search needs) (second .write-second .ensures)
+          (first .write-pixel .ensures),
+      omega arith,
+      omega arith,
+      here .inv .3,
+    )
 
 same-length : tie.Need-same-length Inv-loop μ-loop
 same-length c = search needs
 
 returns : tie.Need-returns Inv-loop μ-loop
-returns c = coloured-end (c .before .before .loop .inv) (c .if1 .taken)
+returns c = coloured-end (c .before .before .loop .inv .0) (c .if1 .taken)
 
 read-pixel-requires-3 : tie.Need-read-pixel-requires-3 Inv-loop μ-loop
-read-pixel-requires-3 c κs = inside-source (c .before .before .loop .inv) (omega (arith, c .before .before .loop .inv .within))
+read-pixel-requires-3 c κs =
+    let here = c .before .before .loop in
+    inside-source (here .inv .0) (omega (arith, here .inv .0 .within))
 
 intensity-of-requires-3 : tie.Need-intensity-of-requires-3 Inv-loop μ-loop
 intensity-of-requires-3 c κs = search needs
 
-mul-write-pixel-2 : tie.Need-mul-write-pixel-2 Inv-loop μ-loop
-mul-write-pixel-2 c = search needs
+mul-write-pixel : tie.Need-mul-write-pixel Inv-loop μ-loop
+mul-write-pixel c = search needs
 
-array-copy-out-write-pixel-2 : tie.Need-array-copy-out-write-pixel-2 Inv-loop μ-loop
-array-copy-out-write-pixel-2 c = search needs
+array-copy-out-write-pixel : tie.Need-array-copy-out-write-pixel Inv-loop μ-loop
+array-copy-out-write-pixel c = search needs
 
 write-pixel-requires-2 : tie.Need-write-pixel-requires-2 Inv-loop μ-loop
 write-pixel-requires-2 c κs =
     let here = c .before .before .before .before .before .before .loop in
-    inside-destination (here .inv) (omega (arith, here .inv .within))
+    inside-destination (here .inv .0) (omega (arith, here .inv .0 .within))
 
 same-length-2 : tie.Need-same-length-2 Inv-loop μ-loop
 same-length-2 c = search needs
@@ -101,11 +124,12 @@ returns-2 c =
     let summed = last .before .before .before in
     let read = summed .before in
     let here = read .before .before .before .loop in
-    let inside : here .i < length (read .before .before .before .before .before .before .args .source .now) = omega (arith, here .inv .within) in
+    let inside : here .i < length (read .before .before .before .before .before .before .args .source .now) =
+    omega (arith, here .inv .0 .within) in
     coloured-end
-    (coloured-one (here .inv) _ (read .read-pixel3 .result) (summed .intensity-of3 .result) inside (read .read-pixel3 .ensures)
+    (coloured-one (here .inv .0) _ (read .read-pixel3 .result) (summed .intensity-of3 .result) inside (read .read-pixel3 .ensures)
     (summed .intensity-of3 .ensures .0) (search needs) (last .write-pixel2 .ensures))
-    (last-pixel (here .inv) inside (omega arith))
+    (last-pixel (here .inv .0) inside (omega arith))
 
 pub colour-by-lines-spec : {M : Type 1} → statement M
 colour-by-lines-spec =
@@ -113,18 +137,22 @@ colour-by-lines-spec =
     (tie.spec
     Inv-loop
     μ-loop
+    sub-pairs
     loop-holds
-    sub-loop
     read-pixel-requires
     add-read-pixel
     read-pixel-requires-2
     intensity-of-requires
-    mul-write-second
-    array-copy-out-write-second
+    mul-t19
+    element-copy-out-t22
+    mul-t23
+    element-copy-out-t26
     write-second-requires
     intensity-of-requires-2
-    mul-write-pixel
-    array-copy-out-write-pixel
+    mul-t19-2
+    element-copy-out-t22-2
+    mul-t23-2
+    element-copy-out-t26-2
     write-pixel-requires
     add-i
     loop-less
@@ -133,8 +161,8 @@ colour-by-lines-spec =
     returns
     read-pixel-requires-3
     intensity-of-requires-3
-    mul-write-pixel-2
-    array-copy-out-write-pixel-2
+    mul-write-pixel
+    array-copy-out-write-pixel
     write-pixel-requires-2
     same-length-2
     returns-2)

@@ -5,13 +5,13 @@ use native.Mathlib.Nat.{le-trans}
 use native.Mathlib.Omega.{arith}
 use borrow.Author.Count.{below-more}
 use Rattle.tables.specs.Table.{at}
-use Rattle.curve.specs.Inner.{Level, Below}
-use Rattle.curve.proofs.Nearest.{level-rises, level-stays}
+use Rattle.curve.specs.Inner.{Plateau, Below}
+use Rattle.curve.proofs.Nearest.{plateau-rises, plateau-stays}
 use Rattle.curve.proofs.bounds_from.Statement.{statement}
 use Rattle.curve.proofs.bounds_from.Tie as tie
 
 abbrev Inv-loop : tie.InvT-loop
-Inv-loop g aim lower₀ upper₀ lower upper = Level g lower upper × Below g aim upper
+Inv-loop g aim lower₀ upper₀ lower upper = Plateau g lower upper × Below g aim upper
 
 abbrev μ-loop : tie.MeasureT-loop
 μ-loop g aim lower₀ upper₀ lower upper = 766 - upper
@@ -63,8 +63,8 @@ loop-again c =
     let upper = looping .loop .upper in
     let less = tested .if1 .left in (
       ⊎-elim
-          (λ w. rw (w .1) (level-rises (start .pre .0) level (omega arith) (w .0 .taken)))
-          (λ w. rw (w .1) (level-stays (start .pre .0) level (omega arith) (w .0 .left)))
+          (λ w. rw (w .1) (plateau-rises (start .pre .0) level (omega arith) (w .0 .taken)))
+          (λ w. rw (w .1) (plateau-stays (start .pre .0) level (omega arith) (w .0 .left)))
           (c .if2 .came),
       below-more (λ j. at g j < start .args .aim) upper below less,
     )

@@ -5,23 +5,23 @@ use native.Mathlib.Nat.{le-refl, le-trans, le-of-eq, lt-of-lt-of-le, mul-le-mul-
 use native.Mathlib.Omega.{arith}
 use Rattle.tables.specs.Table.{at}
 use Rattle.tables.proofs.Filling.{Filled, filled-start, filled-more, filled-end}
-use Rattle.curve.specs.Inner.{Level, Below}
+use Rattle.curve.specs.Inner.{Plateau, Below}
 use Rattle.curve.specs.Nearest.{nearestPlace}
-use Rattle.curve.proofs.Nearest.{nearest-le, level-start}
+use Rattle.curve.proofs.Nearest.{nearest-le, plateau-start}
 use Rattle.curve.proofs.nearest_entries.Statement.{statement}
 use Rattle.curve.proofs.nearest_entries.Tie as tie
 
 abbrev Inv-loop : tie.InvT-loop
 Inv-loop g scale shares entries₀ bounds₀ s₀ entries bounds s =
     Filled (λ s. nearestPlace (at g) 765 (scale * at shares s)) 766 entries s
-    × Level g (bounds .lower) (bounds .upper)
+    × Plateau g (bounds .lower) (bounds .upper)
     × ((t : ℕ) → s ≤ t → t ≤ 765 → Below g (scale * at shares t) (bounds .upper))
 
 abbrev μ-loop : tie.MeasureT-loop
 μ-loop g scale shares entries₀ bounds₀ s₀ entries bounds s = 766 - s
 
 loop-holds : tie.Need-loop-holds Inv-loop μ-loop
-loop-holds c = (filled-start _ 766 _ refl, level-start, λ t h l j k. absurd (not-suc-le-zero k))
+loop-holds c = (filled-start _ 766 _ refl, plateau-start, λ t h l j k. absurd (not-suc-le-zero k))
 
 mul-aim : tie.Need-mul-aim Inv-loop μ-loop
 mul-aim c = omega arith

@@ -21,13 +21,13 @@ shares-of-requires c κs = search needs
 enum-told : tie.Need-enum-told
 enum-told c = search needs
 
-all-requires : tie.Need-all-requires
-all-requires c κs = search needs
+table-requires : tie.Need-table-requires
+table-requires c κs = search needs
 
 scaled-by-requires : tie.Need-scaled-by-requires
 scaled-by-requires c κs =
     let counted = c .before .before .before .before in
-    (rw (counted .whole-of .ensures) (whole-le (counted .before .pre .most)), c .all .ensures)
+    (rw (counted .whole-of .ensures) (whole-le (counted .before .pre .most)), c .table .ensures)
 
 array-read-nearest-entries : tie.Need-array-read-nearest-entries
 array-read-nearest-entries c = search needs
@@ -35,8 +35,8 @@ array-read-nearest-entries c = search needs
 nearest-entries-requires : tie.Need-nearest-entries-requires
 nearest-entries-requires c κs =
     let scaled = c .before .before in
-    let table = scaled .before in
-    let shared = table .before .before .before in
+    let cube = scaled .before in
+    let shared = cube .before .before .before in
     let counted = shared .before in
     let start = counted .before in
     let histogram = start .pre in
@@ -48,12 +48,12 @@ nearest-entries-requires c κs =
     let sharesAre = shared .shares-of .ensures in
     let is = histogram-is-cumulative histogram in
     let fit = shares-fit N H whole shares wholeIs sharesAre (histogram .some) (histogram .most) is in
-    let top = at-table G 766 (table .all .result) (table .all .ensures) 765 (omega arith) in (
+    let top = at-table G 766 (cube .table .result) (cube .table .ensures) 765 (omega arith) in (
       (
         scaled-non-decreasing N H whole shares wholeIs sharesAre (scaled .scaled-by .result) (scaled .scaled-by .ensures),
         shares-non-decreasing N H whole shares wholeIs sharesAre is,
       ),
-      aims-fit whole shares fit (at (table .all .result) 765) (le-trans (le-of-eq top) (G-le 765 (omega arith))),
+      aims-fit whole shares fit (at (cube .table .result) 765) (le-trans (le-of-eq top) (G-le 765 (omega arith))),
     )
 
 with-ends-requires : tie.Need-with-ends-requires
@@ -79,9 +79,9 @@ returns : tie.Need-returns
 returns c =
     let filled = c .before in
     let scaled = filled .before .before .before in
-    let table = scaled .before in
-    let told = table .before in
-    let top = at-table G 766 (table .all .result) (table .all .ensures) 765 (omega arith) in
+    let cube = scaled .before in
+    let told = cube .before in
+    let top = at-table G 766 (cube .table .result) (cube .table .ensures) 765 (omega arith) in
     let shared = told .before .before in
     let counted = shared .before in
     let start = counted .before in
@@ -89,7 +89,7 @@ returns c =
     let H = cumulative (now (start .args .counts)) in
     rw (told .enum-told .given .1)
     (cube-curve N H (counted .whole-of .result) (shared .shares-of .result) (counted .whole-of .ensures)
-    (shared .shares-of .ensures) (scaled .scaled-by .result) (scaled .scaled-by .ensures) (at (table .all .result) 765)
+    (shared .shares-of .ensures) (scaled .scaled-by .result) (scaled .scaled-by .ensures) (at (cube .table .result) 765)
     (filled .nearest-entries .result) (c .with-ends .result) top (filled .nearest-entries .ensures) (c .with-ends .ensures))
 
 returns-2 : tie.Need-returns-2
@@ -113,7 +113,7 @@ tone-curve-spec =
     whole-of-requires
     shares-of-requires
     enum-told
-    all-requires
+    table-requires
     scaled-by-requires
     array-read-nearest-entries
     nearest-entries-requires

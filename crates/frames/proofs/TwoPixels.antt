@@ -11,8 +11,8 @@ use Rattle.curve.specs.Curve.{shareOf, wholeOf, cubeEntry, equalisedEntry, byCh
 use Rattle.curve.specs.Nearest.{nearer, nearestPlace}
 use Rattle.curve.specs.declared.Choice.{Choice}
 use Rattle.curve.specs.declared.Choice.the-variants.{Cube, Equalised}
-use Rattle.shot.specs.Histogram.{countUpTo}
-use Rattle.shot.proofs.Counts.{count-le}
+use Rattle.measuring.specs.Histogram.{countUpTo}
+use Rattle.measuring.proofs.Counts.{count-le}
 use Rattle.frames.specs.Starred.{twoPixels, threeLevels}
 
 -- the entry for a share of one pixel in two

@@ -10,7 +10,7 @@ use Rattle.pixel.specs.declared.Method.the-variants.{NaikMurthy, YangLee}
 use Rattle.curve.specs.Curve.{toneCurve}
 use Rattle.curve.specs.declared.Choice.{Choice}
 use Rattle.curve.specs.declared.Choice.the-variants.{Cube, Equalised}
-use Rattle.shot.specs.Histogram.{countUpTo}
+use Rattle.measuring.specs.Histogram.{countUpTo}
 
 -- A frame is a move, by a method, of a pixel, to a target, with the pixel that it gives; or the sum of a pixel; or the curve, by a
 -- choice, of some pixels, with its 766 entries.

@@ -1,4 +1,4 @@
--- Laws of counting pixels.
+-- Cumulative histograms of pixels.
 use mathlib.Core.Path.{_≡_, refl, sym}
 use mathlib.Core.Bool.{Bool, true, false, cond}
 use mathlib.Core.List.{List, [], _∷_, _++_, append-assoc, append-nil, List·Memᴰ·head, List·Memᴰ·tail}
@@ -15,36 +15,8 @@ use Rattle.pixel.specs.Strip.{pixelsOf}
 use Rattle.pixel.specs.declared.Pixel.{Pixel}
 use Rattle.curve.specs.Histogram.{sumOfFirst, cumulative, IsCumulative}
 use Rattle.shot.specs.Book.{pixelsIn}
-use Rattle.shot.specs.Histogram.{countWhere, countOf, countUpTo}
-
--- what a pixel counts, where the test of it gives this
-abbrev one : Bool → ℕ
-one t = cond t 1 0
-
-one-le : (t : Bool) → one t ≤ 1
-one-le true = omega arith
-one-le false = omega arith
-
--- the count of more pixels
-pub count-append : (test : ℕ → Bool) (ps qs : List Pixel) → countWhere test (ps ++ qs) ≡ countWhere test ps + countWhere test qs
-count-append test [] qs = omega arith
-count-append test (p ∷ ps) qs = omega (arith, count-append test ps qs)
-
--- no more are counted than there are
-pub count-le : (test : ℕ → Bool) (ps : List Pixel) → countWhere test ps ≤ length ps
-count-le test [] = omega arith
-count-le test (p ∷ ps) = omega (arith, count-le test ps, one-le (test (intensity p)))
-
--- a test that no sum passes less often counts no fewer
-count-mono : (f g : ℕ → Bool) → ((i : ℕ) → one (f i) ≤ one (g i)) → (ps : List Pixel) → countWhere f ps ≤ countWhere g ps
-count-mono f g le [] = omega arith
-count-mono f g le (p ∷ ps) = omega (arith, count-mono f g le ps, le (intensity p))
-
--- tests of which every sum that passes f passes just one count together what f counts
-count-split : (f g h : ℕ → Bool) → ((i : ℕ) → one (f i) ≡ one (g i) + one (h i)) → (ps : List Pixel)
-    → countWhere f ps ≡ countWhere g ps + countWhere h ps
-count-split f g h same [] = refl
-count-split f g h same (p ∷ ps) = omega (arith, count-split f g h same ps, same (intensity p))
+use Rattle.measuring.specs.Histogram.{countOf, countUpTo}
+use Rattle.measuring.proofs.Counts.{one, count-mono, count-split}
 
 -- every pixel's sum is one of the histogram's
 abbrev pub Counted : List Pixel → Type 0

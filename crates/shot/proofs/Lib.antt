@@ -1,5 +1,4 @@
 pub mod Counts
-pub mod Counting
 pub mod Passed
 pub mod Sound
 pub mod Steps

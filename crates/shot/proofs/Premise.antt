@@ -8,15 +8,16 @@ use native.Mathlib.Omega.{arith}
 use lib.Dec.{eqb}
 use lib.ListN.{length}
 use Rattle.pixel.specs.Strip.{Bytes}
+use Rattle.measuring.specs.Inner.{CountsFit}
+use Rattle.measuring.proofs.Counts.{count-le}
 use Rattle.curve.specs.Inner.{HistogramOf}
 use Rattle.curve.specs.Curve.{EntriesInRange}
 use Rattle.shot.specs.Book.{pixelsIn}
-use Rattle.shot.specs.Inner.{CountsFit}
 use Rattle.shot.specs.Reachable.{Reachable, Reachable.byOpening, Reachable.byMeasuring, Reachable.byFixing}
 use Rattle.shot.specs.Shot.{pixelLimit, opened, measured, fixedWith, ColourRequest, Outcome, coloured}
 use Rattle.shot.specs.declared.Shot.{Shot}
 use Rattle.shot.specs.declared.Answer.{Answer}
-use Rattle.shot.proofs.Counts.{count-le, cumulative-counts, pixels-cumulative}
+use Rattle.shot.proofs.Counts.{cumulative-counts, pixels-cumulative}
 use Rattle.shot.proofs.Passed.{Measurable}
 use Rattle.shot.proofs.Pixels.{has-some}
 use Rattle.shot.proofs.Sound.{reachable-sound}

@@ -21,12 +21,13 @@ use Rattle.curve.specs.Histogram.{cumulative}
 use Rattle.curve.proofs.Curve.{curves-are-tone-curves, tone-curve-same}
 use Rattle.shot.specs.Accuracy.{Represents}
 use Rattle.shot.specs.Book.{Call, Call.opening, Call.measuring, Call.fixing, Call.colouring, Book, emptyBook, pixelsIn, curveOf, hasCurve, expectedAnswer, entered, bookStep}
-use Rattle.shot.specs.Histogram.{countOf, countUpTo}
+use Rattle.measuring.specs.Histogram.{countOf, countUpTo, withPixels}
+use Rattle.measuring.proofs.Counts.{count-append}
 use Rattle.shot.specs.Reachable.{Reachable, Reachable.byOpening, Reachable.byMeasuring, Reachable.byFixing}
 use Rattle.shot.specs.Run.{step, WellFormed}
-use Rattle.shot.specs.Shot.{pixelLimit, withPixels, opened, withStrip, measured, withCurve, fixedWith, coloured}
+use Rattle.shot.specs.Shot.{pixelLimit, opened, withStrip, measured, withCurve, fixedWith, coloured}
 use Rattle.shot.specs.declared.Shot.{Shot}
-use Rattle.shot.proofs.Counts.{Counted, count-append, cumulative-counts, pixels-cumulative, pixelsIn-joined}
+use Rattle.shot.proofs.Counts.{Counted, cumulative-counts, pixels-cumulative, pixelsIn-joined}
 use Rattle.shot.proofs.Passed.{Measurable, measure-passed, Fixable, fix-passed}
 
 -- the shot represents the book, within the limits that the next call leans on

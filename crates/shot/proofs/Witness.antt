@@ -18,7 +18,8 @@ use Rattle.curve.specs.Nearest.{nearer, nearestPlace}
 use Rattle.colouring.specs.Colouring.{colouredStrip}
 use Rattle.shot.specs.Book.{Call, Call.opening, Call.measuring, Call.fixing, Call.colouring, curveOf}
 use Rattle.shot.specs.Run.{WellFormed}
-use Rattle.shot.specs.Shot.{withPixels, opened, measured, fixedWith, coloured}
+use Rattle.measuring.specs.Histogram.{withPixels}
+use Rattle.shot.specs.Shot.{opened, measured, fixedWith, coloured}
 use Rattle.shot.specs.Witness.{calls, WitnessRuns}
 
 -- a test for bytes, and for what a call brings

@@ -12,7 +12,7 @@ use Rattle.pixel.specs.Methods.{methodOf}
 use Rattle.curve.specs.Curve.{IsToneCurve}
 use Rattle.colouring.specs.Written.{Written, WrittenExact, WrittenAccurate, pixelsWritten, AtMostTwoBelow}
 use Rattle.shot.specs.Book.{Call, Call.opening, Call.measuring, Call.fixing, Call.colouring, Book, pixelsIn, curveOf, hasCurve, expectedAnswer}
-use Rattle.shot.specs.Histogram.{countOf}
+use Rattle.measuring.specs.Histogram.{countOf}
 use Rattle.shot.specs.Reachable.{Reachable}
 use Rattle.shot.specs.Run.{Step, number, trace, Occurs, WellFormed}
 use Rattle.shot.specs.Shot.{ColourRequest}

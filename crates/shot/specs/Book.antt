@@ -12,7 +12,7 @@ use Rattle.pixel.specs.Strip.{isWhole, pixelsOf}
 use Rattle.pixel.specs.declared.Pixel.{Pixel}
 use Rattle.curve.specs.Choices.{isChoice, choiceOf}
 use Rattle.curve.specs.Curve.{toneCurve}
-use Rattle.shot.specs.Histogram.{countUpTo}
+use Rattle.measuring.specs.Histogram.{countUpTo}
 use Rattle.shot.specs.Shot.{pixelLimit, ColourRequest}
 
 -- A call, with what it brings besides the shot.

@@ -5,25 +5,19 @@ use Prim.Native.Nat.{ℕ, _+_, _/_}
 use lib.Dec.{ltb, eqb}
 use lib.ListN.{length, replicate}
 use Rattle.refusal.specs.Refusal.{Check, _refuses_, firstOf}
-use Rattle.tables.specs.Table.{tabulate, at}
 use Rattle.pixel.specs.Methods.{isMethod, methodOf}
 use Rattle.pixel.specs.Strip.{isWhole, pixelsOf}
-use Rattle.pixel.specs.declared.Pixel.{Pixel}
 use Rattle.curve.specs.Choices.{isChoice, choiceOf}
 use Rattle.curve.specs.Curve.{toneCurve}
 use Rattle.curve.specs.Histogram.{cumulative}
 use Rattle.colouring.specs.Colouring.{colouredStrip}
-use Rattle.shot.specs.Histogram.{countOf}
+use Rattle.measuring.specs.Histogram.{withPixels}
 use Rattle.shot.specs.declared.Shot.{Shot}
 use Rattle.shot.specs.declared.Answer.{Answer}
 
 -- At most 16,777,216 pixels to a shot.
 abbrev pub pixelLimit : ℕ
 pixelLimit = 16777216
-
--- The tally of 766 counts, one for each sum, with the pixels added to it.
-unfoldable pub withPixels : List ℕ → List Pixel → List ℕ
-withPixels counts ps = tabulate (λ s. at counts s + countOf ps s) 766
 
 -- A SHOT is opened empty: all counts are zero. (So is the place of its curve, which nothing reads before it is fixed.)
 unfoldable pub opened : Shot

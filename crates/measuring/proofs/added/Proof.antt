@@ -1,12 +1,12 @@
--- `shot::added` meets its contract.
+-- `measuring::added` meets its contract.
 use mathlib.Core.Path.{refl}
 use Prim.Native.Nat.{_-_}
 use native.Mathlib.Omega.{arith}
 use borrow.Author.Needs.{needs}
 use Rattle.tables.proofs.Filling.{Filled, filled-start, filled-more, filled-end}
-use Rattle.shot.specs.Inner.{together}
-use Rattle.shot.proofs.added.Statement.{statement}
-use Rattle.shot.proofs.added.Tie as tie
+use Rattle.measuring.specs.Inner.{together}
+use Rattle.measuring.proofs.added.Statement.{statement}
+use Rattle.measuring.proofs.added.Tie as tie
 
 abbrev Inv-loop : tie.InvT-loop
 Inv-loop first second third fourth counts₀ s₀ counts s = Filled (together first second third fourth) 766 counts s

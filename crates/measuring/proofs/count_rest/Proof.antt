@@ -1,4 +1,4 @@
--- `shot::count_rest` meets its contract.
+-- `measuring::count_rest` meets its contract.
 use mathlib.Core.Path.{_≡_, refl}
 use Prim.Native.Nat.{_-_}
 use native.Mathlib.Omega.{arith}
@@ -6,9 +6,9 @@ use borrow.Author.Needs.{needs}
 use lib.ListN.{length}
 use Rattle.tables.specs.Table.{at}
 use Rattle.pixel.proofs.Strips.{whole-means}
-use Rattle.shot.proofs.Counting.{with-length, with-at, Counting, counting-start, pixel-fits, counting-more, counting-end}
-use Rattle.shot.proofs.count_rest.Statement.{statement}
-use Rattle.shot.proofs.count_rest.Tie as tie
+use Rattle.measuring.proofs.Counting.{with-length, with-at, Counting, counting-start, pixel-fits, counting-more, counting-end}
+use Rattle.measuring.proofs.count_rest.Statement.{statement}
+use Rattle.measuring.proofs.count_rest.Tie as tie
 
 abbrev Inv-loop : tie.InvT-loop
 Inv-loop strip counts₀ i₀ counts i = (length counts ≡ 766) × Counting counts₀ strip (at counts) i

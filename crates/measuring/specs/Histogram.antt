@@ -3,6 +3,7 @@ use mathlib.Core.Bool.{Bool, cond}
 use mathlib.Core.List.{List, [], _∷_}
 use Prim.Native.Nat.{ℕ, _+_}
 use lib.Dec.{leb, eqb}
+use Rattle.tables.specs.Table.{tabulate, at}
 use Rattle.pixel.specs.Move.{intensity}
 use Rattle.pixel.specs.declared.Pixel.{Pixel}
 
@@ -18,3 +19,7 @@ countOf ps s = countWhere (λ i. eqb i s) ps
 -- H(s): how many of them have a sum of at most s.
 abbrev pub countUpTo : List Pixel → ℕ → ℕ
 countUpTo ps s = countWhere (λ i. leb i s) ps
+
+-- The tally of 766 counts, one for each sum, with the pixels added to it.
+unfoldable pub withPixels : List ℕ → List Pixel → List ℕ
+withPixels counts ps = tabulate (λ s. at counts s + countOf ps s) 766

@@ -14,10 +14,9 @@ use Rattle.pixel.specs.Move.{intensity}
 use Rattle.pixel.specs.Strip.{pixelsOf, pixelFrom}
 use Rattle.pixel.specs.declared.Pixel.{Pixel}
 use Rattle.pixel.proofs.Strips.{drop-pixel}
-use Rattle.shot.specs.Histogram.{countOf}
-use Rattle.shot.specs.Inner.{PixelFits, CountsFit}
-use Rattle.shot.specs.Shot.{withPixels}
-use Rattle.shot.proofs.Counts.{count-le}
+use Rattle.measuring.specs.Inner.{PixelFits, CountsFit}
+use Rattle.measuring.specs.Histogram.{countOf, withPixels}
+use Rattle.measuring.proofs.Counts.{count-le}
 
 -- counts to which pixels were added: how many there are, and what each has
 module _ (counts : List ℕ) (ps : List Pixel) {more : List ℕ} (is : more ≡ withPixels counts ps) where

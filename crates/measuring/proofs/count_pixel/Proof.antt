@@ -1,11 +1,11 @@
--- `shot::count_pixel` meets its contract.
+-- `measuring::count_pixel` meets its contract.
 use mathlib.Core.Path.{ap, _∙_}
 use native.Mathlib.Omega.{arith}
 use borrow.Author.Needs.{needs}
 use Rattle.pixel.specs.Move.{intensity}
-use Rattle.shot.proofs.Counting.{one-more}
-use Rattle.shot.proofs.count_pixel.Statement.{statement}
-use Rattle.shot.proofs.count_pixel.Tie as tie
+use Rattle.measuring.proofs.Counting.{one-more}
+use Rattle.measuring.proofs.count_pixel.Statement.{statement}
+use Rattle.measuring.proofs.count_pixel.Tie as tie
 
 read-pixel-requires : tie.Need-read-pixel-requires
 read-pixel-requires c κs = search needs

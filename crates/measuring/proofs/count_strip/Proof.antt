@@ -1,4 +1,4 @@
--- `shot::count_strip` meets its contract.
+-- `measuring::count_strip` meets its contract.
 use mathlib.Core.Path.{_≡_, refl, ap, _∙_}
 use mathlib.Core.List.{List}
 use Prim.Native.Nat.{ℕ, _+_, _-_, _≤_}
@@ -11,11 +11,11 @@ use Rattle.tables.specs.Table.{at}
 use Rattle.tables.proofs.Laws.{at-table}
 use Rattle.pixel.specs.Strip.{pixelsOf}
 use Rattle.pixel.proofs.Strips.{whole-means}
-use Rattle.shot.specs.Inner.{together}
-use Rattle.shot.specs.Shot.{withPixels}
-use Rattle.shot.proofs.Counting.{with-length, with-at, Counting, counting-start, pixel-fits, counting-more, counted-fits, rest-fits, counting-rest}
-use Rattle.shot.proofs.count_strip.Statement.{statement}
-use Rattle.shot.proofs.count_strip.Tie as tie
+use Rattle.measuring.specs.Inner.{together}
+use Rattle.measuring.specs.Histogram.{withPixels}
+use Rattle.measuring.proofs.Counting.{with-length, with-at, Counting, counting-start, pixel-fits, counting-more, counted-fits, rest-fits, counting-rest}
+use Rattle.measuring.proofs.count_strip.Statement.{statement}
+use Rattle.measuring.proofs.count_strip.Tie as tie
 
 abbrev Inv-loop : tie.InvT-loop
 Inv-loop strip first₀ second₀ third₀ fourth₀ i₀ first second third fourth i =

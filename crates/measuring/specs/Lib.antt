@@ -1,0 +1,2 @@
+pub mod Histogram
+pub mod Inner

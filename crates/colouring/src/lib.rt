@@ -215,6 +215,7 @@ fn colour_by_lines(lines: [Line; 766], source: &[u8], destination: &mut [u8])
     requires { ⌜ SameSize (now source) (now destination) ⌝ }
     ensures { λ _. ⌜ now (destination .exit) ≡ alongLines lines (now (source .entry)) ⌝ }
 {
+    // So many bytes are of pixels that go in twos.
     let pairs = source.len() - source.len() % 6;
     let mut i: usize = 0;
     while i < pairs {

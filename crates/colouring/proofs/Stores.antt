@@ -120,12 +120,12 @@ module _ {lines : List Line} {source destination : List ℕ} {i : ℕ} (h : Colo
   pub inside-source : i < length source → i + 2 < length source
   inside-source less = omega (arith, h .threes, whole-means (length source) (h .size .whole))
 
+  pub inside-destination : i < length source → i + 2 < length destination
+  inside-destination less = omega (arith, inside-source less, h .size .same)
+
   -- where fewer than two are left, it is the last
   pub last-pixel : i < length source → length source - i < 6 → i + 3 ≡ length source
   last-pixel less few = omega (arith, h .threes, whole-means (length source) (h .size .whole))
-
-  pub inside-destination : i < length source → i + 2 < length destination
-  inside-destination less = omega (arith, inside-source less, h .size .same)
 
   -- the coloured strip from byte j on: the pixel there, moved along its line, and then the rest
   next-pixel : (j : ℕ) (p : Pixel) (s : ℕ) → j % 3 ≡ 0 → j < length source → p ≡ pixelFrom source j → s ≡ intensity p

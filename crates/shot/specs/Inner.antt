@@ -1,4 +1,4 @@
--- What functions of this crate that no customer calls require or ensure. No outside call's contract cites these.
+-- What functions of this crate that no customer calls require; their callers show it. No outside call's contract cites these.
 use mathlib.Core.Bool.{true}
 use mathlib.Core.Path.{_≡_}
 use Prim.Native.Nat.{ℕ, _/_, _≤_, _<_}

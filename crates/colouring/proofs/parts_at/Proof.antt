@@ -1,22 +1,26 @@
 -- `colouring::parts_at` meets its contract.
-use Prim.Native.Nat.{_^_}
+use Prim.Native.Nat.{ℕ, _*_, _^_, _≤_}
 use native.Mathlib.Nat.{mul-le-mul}
 use native.Mathlib.Omega.{arith}
 use borrow.Author.Needs.{needs}
 use Rattle.colouring.proofs.parts_at.Statement.{statement}
 use Rattle.colouring.proofs.parts_at.Tie as tie
 
+-- a sample times a slope
+product-fits : (c slope : ℕ) → c ≤ 255 → slope ≤ 2 ^ 32 → c * slope ≤ 255 * 2 ^ 32
+product-fits c slope h k = mul-le-mul h k
+
 cast-parts : tie.Need-cast-parts
 cast-parts c = search needs
 
 mul-parts : tie.Need-mul-parts
-mul-parts c = omega (arith, mul-le-mul {n₁ = c .before .args .c} {m₁ = c .before .args .line .slope} {n₂ = 255} {m₂ = 2 ^ 32} (omega arith) (omega arith))
+mul-parts c = omega (arith, product-fits (c .before .args .c) (c .before .args .line .slope) (omega arith) (omega arith))
 
 cast-parts-2 : tie.Need-cast-parts-2
 cast-parts-2 c = search needs
 
 add-parts : tie.Need-add-parts
-add-parts c = omega (arith, mul-le-mul {n₁ = c .before .before .args .c} {m₁ = c .before .before .args .line .slope} {n₂ = 255} {m₂ = 2 ^ 32} (omega arith) (omega arith))
+add-parts c = omega (arith, product-fits (c .before .before .args .c) (c .before .before .args .line .slope) (omega arith) (omega arith))
 
 cast-result : tie.Need-cast-result
 cast-result c = search needs

@@ -1,17 +1,17 @@
 -- Document 01's lines round the samples of source 004.
 use mathlib.Core.Path.{_≡_, refl, sym, ap, ap₂, subst, subst⁻¹, subst₂, _∙_}
-use Prim.Native.Nat.{ℕ, _-_, _*_, _<_, _≤_}
-use native.Mathlib.Nat.{mul-one, one-mul, mul-assoc, mul-comm, mul-left-comm, mul-le-mul-right, le-of-mul-le-mul-left}
+use Prim.Native.Nat.{ℕ, _+_, _-_, _*_, _<_, _≤_}
+use native.Mathlib.Nat.{mul-one, one-mul, add-mul, mul-assoc, mul-comm, mul-left-comm, mul-le-mul-right, le-of-mul-le-mul-left}
 use native.Mathlib.Omega.{arith}
 use lib.Dec.{T, le→leb}
 use borrow.Author.Tests.{le-leb, lt-leb, eq-eqb, ne-eqb}
-use Rattle.rounding.specs.Near.{near}
+use Rattle.rounding.specs.Near.{near, NearestHalfUp, NearestHalfDown}
 use Rattle.rounding.specs.Fraction.{Fraction, whole, _over_, _⊖_, _⊗_, _⊘_, _≼_, _≈_, nearest}
-use Rattle.rounding.proofs.Laws.{near-same}
+use Rattle.rounding.proofs.Laws.{near-same, near-window}
 use Rattle.tables.proofs.Cases.{either}
 use Rattle.pixel.specs.Inner.{AtMostWhite, PixelSample, MovingSample}
 use Rattle.pixel.specs.Move.{sample, intensity, naikMurthy, yangLee, byMethod, movedSample, moved}
-use Rattle.pixel.specs.Paper.{Exact, Exact.is, Exact.oneMinus, paper₁, paper₂, paperI, paperIII, paperBy, paper, Rounds, MovesRoundThePaper, InCube, PaperStaysInTheCube, NothingCutOff, FormulasAreExact}
+use Rattle.pixel.specs.Paper.{Exact, Exact.is, Exact.oneMinus, paper₁, paper₂, paperI, paperIII, paperBy, paper, Rounds, MovesRoundThePaper, WithinHalf, MovesAreWithinHalf, InCube, PaperStaysInTheCube, NothingCutOff, FormulasAreExact}
 use Rattle.pixel.specs.declared.Method.{Method}
 use Rattle.pixel.specs.declared.Method.the-variants.{NaikMurthy, YangLee}
 use Rattle.pixel.proofs.Channels.{sample-each, inside}
@@ -58,10 +58,17 @@ module _ (x y z : ℕ) (positive : 0 < z) where
       ac : x * y * (1 * (255 * (255 * z) * 2)) ≡ 255 * (x * (255 * y) * 1) * (2 * z)
       ac = simp (mul-one, one-mul, mul-assoc, mul-comm, mul-left-comm)
 
--- a sample agrees with the paper's: it rounds it, and the paper's lies from 0 to 1
+-- a sample agrees with the paper's: it rounds it, is at most half a step from it, and the paper's lies from 0 to 1
 record Agrees (n : ℕ) (e : Exact) : Type 0 where
   rounds : Rounds n e
+  half : WithinHalf n e
   inCube : InCube e
+
+-- counted down from 255, what is nearest with halves up is nearest with halves down
+counted-down : (q r n d : ℕ) → q + r ≡ 255 → n ≤ d → NearestHalfUp r (255 * n) (1 * d) → NearestHalfDown q (255 * (1 * d - n * 1)) (1 * (1 * d))
+counted-down q r n d e le h =
+    let total : q * d + r * d ≡ 255 * d = sym (add-mul q r d) ∙ ap (λ (t : ℕ). t * d) e in
+    record { above = omega arith; below = omega arith }
 
 module _ {x n d : ℕ} (fits : AtMostWhite x n d) {e : Fraction} (is255 : Is255Times (x * n) d e) where
   open Is255Times is255 using (same)
@@ -69,7 +76,7 @@ module _ {x n d : ℕ} (fits : AtMostWhite x n d) {e : Fraction} (is255 : Is255T
   rounds-as : near (x * n) d ≡ nearest (whole 255 ⊗ e)
   rounds-as = near-same (x * n) d (255 * e .num) (1 * e .den) (same .0) (same .1) (same .2)
 
-  at-most-one : T (e ≼ whole 1)
+  at-most-one : e .num ≤ e .den
   at-most-one =
       let less = mul-le-mul-right (1 * e .den) (fits .small) in
       let least : d * e .num ≤ d * e .den =
@@ -82,13 +89,23 @@ module _ {x n d : ℕ} (fits : AtMostWhite x n d) {e : Fraction} (is255 : Is255T
         mul-assoc 255 d (1 * e .den),
         ap (λ (m : ℕ). d * m) (one-mul (e .den)),
       ) in
-      le→leb (e .num * 1) (1 * e .den) (omega (arith, le-of-mul-le-mul-left least (fits .positive)))
+      le-of-mul-le-mul-left least (fits .positive)
+
+  in-cube : T (e ≼ whole 1)
+  in-cube = le→leb (e .num * 1) (1 * e .den) (omega (arith, at-most-one))
+
+  half-step : NearestHalfUp (near (x * n) d) (255 * e .num) (1 * e .den)
+  half-step = rw rounds-as (near-window (255 * e .num) (1 * e .den) (same .1))
 
   directly : Agrees (near (x * n) d) (is e)
-  directly = record { rounds = rounds-as; inCube = at-most-one }
+  directly = record { rounds = rounds-as; half = half-step; inCube = in-cube }
 
   from-white : Agrees (255 - near (x * n) d) (oneMinus e)
-  from-white = record { rounds = omega (arith, rounds-as, at-most-255 fits); inCube = at-most-one }
+  from-white = record {
+    rounds = omega (arith, rounds-as, at-most-255 fits);
+    half = counted-down (255 - near (x * n) d) (near (x * n) d) (e .num) (e .den) (omega (arith, at-most-255 fits)) at-most-one half-step;
+    inCube = in-cube;
+  }
 
 -- the lines of document 01, by the paper's cases
 module _ {s f c : ℕ} (h : MovingSample s f c) where
@@ -191,14 +208,14 @@ sample-agrees : (m : Method) (s f c : ℕ) → PixelSample s f c → Agrees (mov
 unfolding movedSample paper near
 sample-agrees m s f c h =
     either s 0
-    (λ l. simp (eq-eqb s 0 (omega arith), le-leb (s * 1) 0 (omega arith)) (record { rounds = refl; inCube = tt }))
+    (λ l. simp (eq-eqb s 0 (omega arith), le-leb (s * 1) 0 (omega arith)) (record { rounds = refl; half = omega arith; inCube = tt }))
     (λ light.
     let light' = ne-eqb s 0 (λ z. omega arith) in
     let light'' = lt-leb (s * 1) 0 (omega arith) in
     either 765 s
     (λ l.
     simp (light', light'', eq-eqb s 765 (omega arith), le-leb 765 (s * 1) (omega arith))
-    (record { rounds = refl; inCube = tt }))
+    (record { rounds = refl; half = omega arith; inCube = tt }))
     (λ dark.
     simp (light', light'', ne-eqb s 765 (λ z. omega arith), lt-leb 765 (s * 1) (omega arith))
     (agrees-by (record { inside = h; notBlack = light; notWhite = dark }) m)))
@@ -208,6 +225,12 @@ unfolding moved
 moves-round-the-paper m p f a bytes le =
     rw (sample-each (movedSample m (intensity p) f) p a)
     (sample-agrees m (intensity p) f (sample p a) (inside p f bytes le a) .rounds)
+
+pub moves-are-within-half : MovesAreWithinHalf
+unfolding moved
+moves-are-within-half m p f a bytes le =
+    rw (sample-each (movedSample m (intensity p) f) p a)
+    (sample-agrees m (intensity p) f (sample p a) (inside p f bytes le a) .half)
 
 pub paper-stays-in-the-cube : PaperStaysInTheCube
 paper-stays-in-the-cube m p f a bytes le =

@@ -4,6 +4,7 @@ use mathlib.Core.Path.{_≡_}
 use mathlib.Core.Bool.{cond}
 use Prim.Native.Nat.{ℕ, _+_, _<_, _≤_}
 use lib.Dec.{T}
+use Rattle.rounding.specs.Near.{NearestHalfUp, NearestHalfDown}
 use Rattle.rounding.specs.Fraction.{Fraction, whole, _over_, _⊖_, _⊗_, _⊘_, _≼_, nearest}
 use Rattle.pixel.specs.Move.{Channel, sample, InRange, intensity, moved}
 use Rattle.pixel.specs.declared.Pixel.{Pixel}
@@ -60,6 +61,23 @@ abbrev pub MovesRoundThePaper : Type 0
 MovesRoundThePaper =
     (m : Method) (p : Pixel) (f : ℕ) (a : Channel) → InRange p → f ≤ 765
     → Rounds (sample (moved m p f) a) (paper m (intensity p over 255) (f over 255) (sample p a over 255))
+
+-- The exact sample in code values: 255 x, or 255 (1 − x).
+abbrev pub codeValue : Exact → Fraction
+codeValue (is x) = whole 255 ⊗ x
+codeValue (oneMinus x) = whole 255 ⊗ (whole 1 ⊖ x)
+
+-- n is at most half a step from the exact sample. Halves go up, so it is less than half a step below; counted down from white they go
+-- down, and it is less than half a step above.
+abbrev pub WithinHalf : ℕ → Exact → Type 0
+WithinHalf n (is x) = NearestHalfUp n (codeValue (is x) .num) (codeValue (is x) .den)
+WithinHalf n (oneMinus x) = NearestHalfDown n (codeValue (oneMinus x) .num) (codeValue (oneMinus x) .den)
+
+-- Claim: so it is for each sample of a moved pixel. Proved: proofs/Paper.antt, `moves-are-within-half`.
+abbrev pub MovesAreWithinHalf : Type 0
+MovesAreWithinHalf =
+    (m : Method) (p : Pixel) (f : ℕ) (a : Channel) → InRange p → f ≤ 765
+    → WithinHalf (sample (moved m p f) a) (paper m (intensity p over 255) (f over 255) (sample p a over 255))
 
 -- The exact sample lies from 0 to 1: no channel leaves the cube, and 1 − x is not cut off at 0.
 abbrev pub InCube : Exact → Type 0

@@ -16,6 +16,7 @@ infixl 60 _⊖_
 infixl 70 _⊗_
 infixl 70 _⊘_
 infix 50 _≼_
+infix 50 _≺_
 infix 50 _≈_
 abbrev pub _over_ : ℕ → ℕ → Fraction
 n over d = record { num = n; den = d }
@@ -40,6 +41,14 @@ x ⊘ y = (x .num * y .den) over (x .den * y .num)
 -- x is at most y, where both denominators are positive
 abbrev pub _≼_ : Fraction → Fraction → Bool
 x ≼ y = leb (x .num * y .den) (y .num * x .den)
+
+-- x is less than y, where both denominators are positive
+abbrev pub _≺_ : Fraction → Fraction → Type 0
+x ≺ y = x .num * y .den < y .num * x .den
+
+-- x and y are less than w apart (neither side holds where a denominator is 0)
+abbrev pub Within : Fraction → Fraction → Fraction → Type 0
+Within w x y = (x ≺ y ⊕ w) × (y ≺ x ⊕ w)
 
 -- x and y are the same number
 abbrev pub _≈_ : Fraction → Fraction → Type 0

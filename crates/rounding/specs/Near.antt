@@ -12,6 +12,11 @@ pub record NearestHalfUp (q n d : ℕ) : Type 0 where
   pub above : 2 * (q * d) ≤ 2 * n + d
   pub below : 2 * n < 2 * (q * d) + d
 
--- Claim: near n d is that number, and the only one. Proved: proofs/Laws.antt, `near-means`.
+-- The same for halves down: less than half a step above n / d, and at most half a step below it.
+pub record NearestHalfDown (q n d : ℕ) : Type 0 where
+  pub above : 2 * (q * d) < 2 * n + d
+  pub below : 2 * n ≤ 2 * (q * d) + d
+
+-- Claim: near n d is the nearest with halves up, and the only one. Proved: proofs/Laws.antt, `near-means`.
 abbrev pub NearMeans : Type 0
 NearMeans = (q n d : ℕ) → 0 < d → NearestHalfUp q n d ↔ (q ≡ near n d)

@@ -135,16 +135,24 @@ step-accurate before t g =
     answered : number t ≡ step (t .shot) (t .call) .answer .number
     answered = ap (λ (o : Outcome). o .answer .number) (g .did)
 
+-- every list starts from a freshly opened shot
+good-steps : (calls : List Call) → ((c : Call) → c among calls → WellFormed c)
+    → (before : List Step) (t : Step) → Occurs (trace calls) before t → Good before t
+good-steps calls ok = all-good calls ok byOpening sound-opened past-start
+
+-- what a step's call brings is as asked
+pub step-brings : (calls : List Call) → ((c : Call) → c among calls → WellFormed c)
+    → (before : List Step) (t : Step) → Occurs (trace calls) before t → WellFormed (t .call)
+step-brings calls ok before t o = good-steps calls ok before t o .brings
+
 pub accuracy : CallsAreAccurate
 accuracy calls ok =
-    let good : (before : List Step) (t : Step) → Occurs (trace calls) before t → Good before t =
-    all-good calls ok byOpening sound-opened past-start in
     record {
-      steps = λ before t o. step-accurate before t (good before t o);
+      steps = λ before t o. step-accurate before t (good-steps calls ok before t o);
       order =
           λ before before' t u o o' same v w mv mw.
-          let g = good before t o in
-          let h = good before' u o' in
+          let g = good-steps calls ok before t o in
+          let h = good-steps calls ok before' u o' in
           below-two v w (by-book before t g v mv) (by-book before' u h w mw)
           (one-curve before before' t u g h same (in-order before before' t u o o'));
     }

@@ -1,0 +1,4 @@
+pub mod Chroma
+pub mod Hue
+pub mod Widths
+pub mod Written

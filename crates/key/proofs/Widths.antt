@@ -1,0 +1,69 @@
+-- A moved pixel keeps the widths of a key: all but the half step follow from the rules of demand 3.
+use mathlib.Core.Path.{_≡_, sym, subst}
+use mathlib.Core.Logic.{_⊎_, inl, inr, ⊎-elim}
+use Prim.Native.Nat.{ℕ, _<_, _≤_}
+use native.Mathlib.Nat.{le-refl, le-trans, mul-comm, mul-one, one-mul}
+use native.Mathlib.Omega.{arith}
+use Rattle.rounding.specs.Fraction.{Fraction, whole, _⊗_, _over_, Within}
+use Rattle.tables.proofs.Cases.{either}
+use Rattle.pixel.specs.Accuracy.{factor, PixelAccurate, withinOneStep, OwnEnds}
+use Rattle.pixel.specs.Move.{Channel, Channel.red, Channel.green, Channel.blue, sample, InRange, intensity, moved}
+use Rattle.pixel.specs.Paper.{paper, WithinHalf}
+use Rattle.pixel.specs.declared.Method.{Method}
+use Rattle.pixel.specs.declared.Pixel.{Pixel}
+use Rattle.pixel.proofs.Accurate.{moves-are-accurate, ends-stay}
+use Rattle.pixel.proofs.Paper.{moves-are-within-half}
+use Rattle.pixel.proofs.Strips.{intensity-in-range}
+use Rattle.key.specs.Hue.{greatest, least, chroma, KeepsHue, KeepsMiddle, KeepsDifferences}
+use Rattle.key.specs.Widths.{KeyWidths, MovesKeepHue, MovesKeepWidths}
+use Rattle.key.proofs.Chroma.{grey-stays, keeps-chroma}
+use Rattle.key.proofs.Hue.{differences-keep-hue}
+
+-- demand 3's rules hold the two that hue and chroma rest on
+two-rules : {k : Fraction} {f : ℕ} {p q : Pixel} → PixelAccurate k f p q → KeepsDifferences k p q
+two-rules a = record { denominator = a .denominator; order = a .order; difference = a .difference }
+
+-- a pixel that keeps the rules, and whose samples are within half a step, keeps the widths
+pub keeps-widths : (m : Method) (f : ℕ) (p q : Pixel) → PixelAccurate (factor m (intensity p) f) f p q
+    → ((a : Channel) → WithinHalf (sample q a) (paper m (intensity p over 255) (f over 255) (sample p a over 255)))
+    → KeyWidths m f p q
+keeps-widths m f p q accurate half =
+    let k = factor m (intensity p) f in
+    let d = two-rules accurate in
+    record {
+      hueWidth = differences-keep-hue .hue k p q d;
+      middle = differences-keep-hue .middle k p q d;
+      chromaWidth = keeps-chroma k p q d;
+      sumAbove = accurate .sumAbove;
+      sumBelow = accurate .sumBelow;
+      grey = grey-stays k p q d;
+      samples = half;
+    }
+
+pub moves-keep-widths : MovesKeepWidths
+moves-keep-widths m p f bytes le ends =
+    keeps-widths m f p (moved m p f) (moves-are-accurate m p f bytes le ends) (λ a. moves-are-within-half m p f a bytes le)
+
+-- Black and white stay for every target, so the rules that hue rests on hold without the ends' own targets.
+unmoved : (p : Pixel) → KeepsDifferences (1 over 1) p p
+unmoved p = record { denominator = omega arith; order = λ a b l. l; difference = λ a b. (omega arith, omega arith) }
+
+keeps-differences : (m : Method) (p : Pixel) (f : ℕ) → InRange p → f ≤ 765 → (k : Fraction) × KeepsDifferences k p (moved m p f)
+keeps-differences m p f bytes le =
+    either (intensity p) 0
+    (λ l. at-end (inl (omega arith)))
+    (λ light.
+    either 765 (intensity p)
+    (λ l. at-end (inr (omega (arith, intensity-in-range p bytes))))
+    (λ dark.
+    let own : OwnEnds p f = record { black = λ (e : intensity p ≡ 0). omega arith; white = λ (e : intensity p ≡ 765). omega arith } in
+    (_, two-rules (moves-are-accurate m p f bytes le own))))
+  where
+    at-end : (intensity p ≡ 0) ⊎ (intensity p ≡ 765) → (k : Fraction) × KeepsDifferences k p (moved m p f)
+    at-end e = (1 over 1, subst (KeepsDifferences (1 over 1) p) (sym (ends-stay m p f bytes e)) (unmoved p))
+
+pub moves-keep-hue : MovesKeepHue
+moves-keep-hue = record {
+  hue = λ m p f bytes le. let (k, d) = keeps-differences m p f bytes le in differences-keep-hue .hue k p (moved m p f) d;
+  middle = λ m p f bytes le. let (k, d) = keeps-differences m p f bytes le in differences-keep-hue .middle k p (moved m p f) d;
+}

@@ -1,0 +1,88 @@
+-- The widths of a key follow from demand 3, for every pixel written.
+use mathlib.Core.Path.{_≡_, refl, sym, subst}
+use mathlib.Core.Bool.{Bool, true, false, cond}
+use mathlib.Core.List.{List, [], List·Memᴰ·not-nil}
+use mathlib.Core.Option.{Option, none, some}
+use Prim.Native.Nat.{ℕ, _/_, _≤_}
+use native.Mathlib.Omega.{arith}
+use borrow.Author.Tests.{eqb-true}
+use lib.Dec.{eqb}
+use lib.ListN.{length}
+use Rattle.rounding.specs.Fraction.{_over_}
+use Rattle.tables.specs.Table.{_among_}
+use Rattle.tables.proofs.Laws.{tabulate-member}
+use Rattle.pixel.specs.Methods.{methodOf}
+use Rattle.pixel.specs.Move.{sample, InRange, intensity}
+use Rattle.pixel.specs.Paper.{paper, WithinHalf}
+use Rattle.pixel.specs.Strip.{Bytes}
+use Rattle.pixel.specs.declared.Method.{Method}
+use Rattle.pixel.specs.declared.Pixel.{Pixel}
+use Rattle.pixel.proofs.Paper.{moves-are-within-half}
+use Rattle.pixel.proofs.Strips.{pixel-in-range, intensity-in-range}
+use Rattle.curve.specs.Curve.{EntriesInRange, IsToneCurve}
+use Rattle.colouring.specs.Written.{Written, WrittenExact, WrittenAccurate, pixelsWritten}
+use Rattle.shot.specs.Accuracy.{requested, entries}
+use Rattle.shot.specs.Book.{Call, Call.opening, Call.measuring, Call.fixing, Call.colouring}
+use Rattle.shot.specs.Run.{Step, number, WellFormed}
+use Rattle.shot.proofs.Accuracy.{accuracy, step-brings}
+use Rattle.host.specs.CurveBytes.{curveEntries}
+use Rattle.host.specs.Host.{ColourCall, colourOutcome}
+use Rattle.host.proofs.Accuracy.{host-accurate}
+use Rattle.key.specs.Written.{WrittenWidths, CallsKeepWidths, HostKeepsWidths}
+use Rattle.key.proofs.Widths.{keeps-widths}
+
+-- the source pixel has bytes for samples, and the entry is a target
+record FromBytes (w : Written) : Type 0 where
+  input : InRange (w .input)
+  entry : w .entry ≤ 765
+
+-- so it is for a pixel written in an accepted call, from bytes and by a curve of targets
+from-bytes : (n : ℕ) (method : Method) (curve source bytes : List ℕ) → (n ≡ 0 → EntriesInRange curve) → Bytes source
+    → (w : Written) → w among cond (eqb n 0) (pixelsWritten method curve source bytes) [] → FromBytes w
+from-bytes n method curve source bytes targets samples w m = go (eqb n 0) refl m
+  where
+    go : (t : Bool) → eqb n 0 ≡ t → w among cond t (pixelsWritten method curve source bytes) [] → FromBytes w
+    go true z m =
+        let (i, inside, e) = tabulate-member _ (length source / 3) w m in
+        let in-range = pixel-in-range source samples i in
+        subst FromBytes (sym e)
+        (record { input = in-range; entry = targets (eqb-true n 0 z) _ (intensity-in-range _ in-range) })
+    go false z m = absurd (List·Memᴰ·not-nil m)
+
+-- where it is exact and keeps demand 3's rules too, it keeps the widths
+written-widths : (w : Written) → FromBytes w → WrittenExact w → WrittenAccurate w → WrittenWidths w
+written-widths w from exact rules =
+    keeps-widths (w .method) (w .entry) (w .input) (w .output) rules
+    (λ a.
+    subst (λ (q : Pixel). WithinHalf (sample q a) (paper (w .method) (intensity (w .input) over 255) (w .entry over 255) (sample (w .input) a over 255)))
+    (sym exact)
+    (moves-are-within-half (w .method) (w .input) (w .entry) a (from .input) (from .entry)))
+
+-- what a call asks to be coloured is bytes
+requested-bytes : (c : Call) → WellFormed c → Bytes (requested c .source)
+requested-bytes opening ok = λ i. omega arith
+requested-bytes (measuring strip) ok = λ i. omega arith
+requested-bytes (fixing choice) ok = λ i. omega arith
+requested-bytes (colouring q) ok = ok
+
+-- a book's entries are targets
+entries-are-targets : (curve : Option (List ℕ)) → ((c : List ℕ) → curve ≡ some c → IsToneCurve c) → EntriesInRange (entries curve)
+entries-are-targets none shape = λ s le. omega arith
+entries-are-targets (some c) shape = shape c refl .range
+
+pub calls-keep-widths : CallsKeepWidths
+calls-keep-widths calls ok before t o w m =
+    let good = accuracy calls ok .steps before t o in
+    let q = requested (t .call) in
+    let from = from-bytes (number t) (methodOf (q .method)) (entries (t .book .curve)) (q .source) (t .outcome .bytes)
+    (λ e. entries-are-targets (t .book .curve) (good .shape))
+    (requested-bytes (t .call) (step-brings calls ok before t o)) w m in
+    written-widths w from (good .exact w m) (good .rules w m)
+
+pub host-keeps-widths : HostKeepsWidths
+host-keeps-widths c bytes w m =
+    let good = host-accurate .colourings c bytes in
+    let from = from-bytes (colourOutcome c .number) (methodOf (c .method)) (curveEntries (c .curve)) (c .source) (colourOutcome c .bytes)
+    (λ e. good .shape e .range)
+    bytes w m in
+    written-widths w from (good .exact w m) (good .rules w m)

@@ -1,0 +1,87 @@
+-- Hue and chroma, the two that a key reads of a pixel beside its intensity, as HSV and HSL have them; and how far hue may move.
+use mathlib.Core.Bool.{cond}
+use mathlib.Core.Logic.{_⊎_}
+use Prim.Native.Nat.{ℕ, _+_, _-_, _*_, _<_, _≤_, min, max}
+use lib.Dec.{leb, eqb}
+use Rattle.rounding.specs.Fraction.{Fraction, whole, _over_, _⊕_, _≺_, Within}
+use Rattle.pixel.specs.Accuracy.{withinOneStep}
+use Rattle.pixel.specs.Move.{Channel, sample}
+use Rattle.pixel.specs.declared.Pixel.{Pixel}
+
+-- The greatest and the least of the three samples.
+abbrev pub greatest : Pixel → ℕ
+greatest p = max (p .r) (max (p .g) (p .b))
+
+abbrev pub least : Pixel → ℕ
+least p = min (p .r) (min (p .g) (p .b))
+
+-- Chroma, in code values. A grey pixel has none.
+unfoldable pub chroma : Pixel → ℕ
+chroma p = greatest p - least p
+
+-- n / c sixths of a turn, in degrees.
+abbrev pub degrees : ℕ → ℕ → Fraction
+degrees n c = (60 * n) over c
+
+-- Hue in degrees, from 0 up to 360. A grey pixel has none: its fraction would be over 0.
+unfoldable pub hue : Pixel → Fraction
+hue p =
+    let c = chroma p in
+    cond (eqb (p .r) (greatest p))
+    (cond (leb (p .b) (p .g))
+    -- red is greatest: 60 × (g − b) / c
+    (degrees (p .g - p .b) c)
+    -- and where that is below 0, a whole turn further on: 60 × (6 + (g − b) / c)
+    (degrees (6 * c + p .g - p .b) c))
+    (cond (eqb (p .g) (greatest p))
+    -- green is: 60 × (2 + (b − r) / c)
+    (degrees (2 * c + p .b - p .r) c)
+    -- blue is: 60 × (4 + (r − g) / c)
+    (degrees (4 * c + p .r - p .g) c))
+
+-- That is an angle: no subtraction is cut off at 0, and the hue of a pixel that is not grey is less than a whole turn.
+pub record HueOf (p : Pixel) : Type 0 where
+  pub redFits : p .b ≤ 6 * chroma p + p .g
+  pub greenFits : p .r ≤ 2 * chroma p + p .b
+  pub blueFits : p .g ≤ 4 * chroma p + p .r
+  pub turn : 0 < chroma p → hue p ≺ whole 360
+
+-- Claim: so it is for every pixel. Proved: proofs/Hue.antt, `hues-are-angles`.
+abbrev pub HuesAreAngles : Type 0
+HuesAreAngles = (p : Pixel) → HueOf p
+
+-- Two angles are less than w degrees apart on the circle: as they stand, or one of them a whole turn further on.
+abbrev pub AnglesWithin : Fraction → Fraction → Fraction → Type 0
+AnglesWithin w x y = Within w x y ⊎ (Within w (x ⊕ whole 360) y ⊎ Within w x (y ⊕ whole 360))
+
+-- The answer to "keeps hue to what?": less than 60 / chroma degrees, the chroma being that of the pixel written.
+abbrev pub KeepsHue : Pixel → Pixel → Type 0
+KeepsHue p q = 0 < chroma q → AnglesWithin (60 over chroma q) (hue p) (hue q)
+
+-- The same without an angle: p has in its channels lo, mid and hi the samples min ≤ mid ≤ max, and q, written for it, min', mid' and max'.
+-- Where the middle one lies between the others sets the hue within its sixth of a turn.
+pub record MiddleKept (p q : Pixel) (lo mid hi : Channel) : Type 0 where
+  -- min' ≤ mid' ≤ max'
+  pub lower : sample q lo ≤ sample q mid
+  pub upper : sample q mid ≤ sample q hi
+  -- | (mid' − min') × (max − min) − (mid − min) × (max' − min') | < max − min
+  pub above : (sample q mid - sample q lo) * (sample p hi - sample p lo)
+      < (sample p mid - sample p lo) * (sample q hi - sample q lo) + (sample p hi - sample p lo)
+  pub below : (sample p mid - sample p lo) * (sample q hi - sample q lo)
+      < (sample q mid - sample q lo) * (sample p hi - sample p lo) + (sample p hi - sample p lo)
+
+-- Whichever channels these are, where max > min.
+abbrev pub KeepsMiddle : Pixel → Pixel → Type 0
+KeepsMiddle p q =
+    (lo mid hi : Channel) → sample p lo ≤ sample p mid → sample p mid ≤ sample p hi → sample p lo < sample p hi → MiddleKept p q lo mid hi
+
+-- What both rest on, whatever made q: two of demand 3's rules, by any factor k.
+pub record KeepsDifferences (k : Fraction) (p q : Pixel) : Type 0 where
+  pub denominator : 0 < k .den
+  pub order : (a b : Channel) → sample p a ≤ sample p b → sample q a ≤ sample q b
+  pub difference : (a b : Channel) → withinOneStep k (sample p a) (sample p b) (sample q a) (sample q b)
+
+-- Claim: that is enough. Proved: proofs/Hue.antt, `differences-keep-hue`.
+pub record DifferencesKeepHue : Type 0 where
+  pub hue : (k : Fraction) (p q : Pixel) → KeepsDifferences k p q → KeepsHue p q
+  pub middle : (k : Fraction) (p q : Pixel) → KeepsDifferences k p q → KeepsMiddle p q

@@ -1,0 +1,3 @@
+pub mod Hue
+pub mod Widths
+pub mod Written

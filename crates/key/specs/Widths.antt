@@ -1,0 +1,34 @@
+-- The widths of a key: how far a written pixel may land from the paper's exact one, in what a colourist sets a key by.
+use mathlib.Core.Path.{_≡_}
+use Prim.Native.Nat.{ℕ, _+_, _≤_}
+use Rattle.rounding.specs.Fraction.{whole, _over_, _⊗_, Within}
+use Rattle.pixel.specs.Accuracy.{factor, OwnEnds}
+use Rattle.pixel.specs.Move.{Channel, sample, InRange, intensity, moved}
+use Rattle.pixel.specs.Paper.{paper, WithinHalf}
+use Rattle.pixel.specs.declared.Method.{Method}
+use Rattle.pixel.specs.declared.Pixel.{Pixel}
+use Rattle.key.specs.Hue.{chroma, KeepsHue, KeepsMiddle}
+
+-- Claim: hue is kept by both methods, for every pixel and target. Proved: proofs/Widths.antt, `moves-keep-hue`.
+pub record MovesKeepHue : Type 0 where
+  pub hue : (m : Method) (p : Pixel) (f : ℕ) → InRange p → f ≤ 765 → KeepsHue p (moved m p f)
+  pub middle : (m : Method) (p : Pixel) (f : ℕ) → InRange p → f ≤ 765 → KeepsMiddle p (moved m p f)
+
+-- For a pixel p that is written as q by the method m, with the entry f for its intensity:
+pub record KeyWidths (m : Method) (f : ℕ) (p q : Pixel) : Type 0 where
+  -- hue moves by less than 60 / chroma degrees, the chroma being the written one
+  pub hueWidth : KeepsHue p q
+  pub middle : KeepsMiddle p q
+  -- the chroma is less than a full step from the factor times the chroma going in
+  pub chromaWidth : Within (whole 1) (whole (chroma q)) (factor m (intensity p) f ⊗ whole (chroma p))
+  -- the intensity is at most one from the entry
+  pub sumAbove : intensity q ≤ f + 1
+  pub sumBelow : f ≤ intensity q + 1
+  -- grey stays grey
+  pub grey : chroma p ≡ 0 → chroma q ≡ 0
+  -- and each sample is at most half a step from the exact value of the paper's formula
+  pub samples : (a : Channel) → WithinHalf (sample q a) (paper m (intensity p over 255) (f over 255) (sample p a over 255))
+
+-- Claim: every move keeps them. Proved: proofs/Widths.antt, `moves-keep-widths`.
+abbrev pub MovesKeepWidths : Type 0
+MovesKeepWidths = (m : Method) (p : Pixel) (f : ℕ) → InRange p → f ≤ 765 → OwnEnds p f → KeyWidths m f p (moved m p f)

@@ -11,7 +11,7 @@ use Rattle.pixel.specs.Accuracy.{withinOneStep}
 use Rattle.pixel.specs.Move.{Channel, Channel.red, Channel.green, Channel.blue, sample}
 use Rattle.pixel.specs.declared.Pixel.{Pixel}
 use Rattle.key.proofs.Chroma.{not-above, not-below, spread-is, grey-stays}
-use Rattle.key.specs.Hue.{greatest, least, chroma, degrees, hue, HueOf, HuesAreAngles, AnglesWithin, KeepsHue, MiddleKept, KeepsMiddle, KeepsDifferences, DifferencesKeepHue}
+use Rattle.key.specs.Hue.{greatest, least, chroma, degrees, hue, hueBound, HueOf, HuesAreAngles, AnglesWithin, KeepsHue, MiddleKept, KeepsMiddle, KeepsDifferences, DifferencesKeepHue}
 
 -- The law, over samples and fractions. Two neighbouring differences m and n come out as u and v, each kept by the factor num / den to less
 -- than w parts of a step; then u / m and v / n cannot part by more than that.
@@ -32,7 +32,7 @@ crossed : (num den m n u v : ℕ) → 0 < den → u * den < m * num + den → n 
 crossed num den m n u v positive first second some =
     lt-of-mul-lt-mul-right den (omega (arith, cross num den den m n u v first second some, add-mul (m * v) (m + n) den))
 
-pub keeps-middle : (k : Fraction) (p q : Pixel) → KeepsDifferences k p q → KeepsMiddle p q
+keeps-middle : (k : Fraction) (p q : Pixel) → KeepsDifferences k p q → KeepsMiddle p q
 keeps-middle k p q d lo mid hi l u s =
     let l' = d .order lo mid l in
     let u' = d .order mid hi u in
@@ -56,7 +56,7 @@ keeps-middle k p q d lo mid hi l u s =
     }
 
 -- Angles: x / c and y / c' sixths of a turn are less than 1 / c' apart, both sides times c × c'.
-within : (x y c c' : ℕ) → 0 < c' → x * c' < y * c + c → y * c < x * c' + c → Within (60 over c') (degrees x c) (degrees y c')
+within : (x y c c' : ℕ) → 0 < c' → x * c' < y * c + c → y * c < x * c' + c → Within (hueBound c') (degrees x c) (degrees y c')
 within x y c c' positive first second =
     let one : x * c' * (60 * c') < (y * c + c) * (60 * c') = mul-lt-mul-of-pos-right first (omega arith) in
     let two : y * c * (60 * c') < (x * c' + c) * (60 * c') = mul-lt-mul-of-pos-right second (omega arith) in
@@ -85,7 +85,7 @@ before k c m = k * c - m
 abbrev Steady : (ℕ → ℕ → ℕ) → Type 0
 Steady place =
     (m c m' c' : ℕ) → 0 < c' → m ≤ c → m' ≤ c' → m' * c < m * c' + c → m * c' < m' * c + c
-    → Within (60 over c') (degrees (place c m) c) (degrees (place c' m') c')
+    → Within (hueBound c') (degrees (place c m) c) (degrees (place c' m') c')
 
 -- k sixths, over either chroma
 sixths : (k c c' : ℕ) → k * c * c' ≡ k * c' * c
@@ -222,14 +222,14 @@ module _ (p : Pixel) (some : 0 < chroma p) where
 -- The order of the channels stays, so both pixels lie in the same sixth of the circle, and the middle sample decides.
 module _ (p q : Pixel) (some : 0 < chroma p) (some' : 0 < chroma q) (middle : KeepsMiddle p q) where
   same-sixth : {lo mid hi : Channel} {place : ℕ → ℕ → ℕ} {h h' : Fraction} → Steady place → MiddleKept p q lo mid hi → sample p mid ≤ sample p hi
-      → Placed p lo mid hi place h → Placed q lo mid hi place h' → Within (60 over chroma q) h h'
+      → Placed p lo mid hi place h → Placed q lo mid hi place h' → Within (hueBound (chroma q)) h h'
   same-sixth {lo} {mid} {hi} steady kept u at at' =
-      subst₂ (Within (60 over chroma q)) (sym (at .angle)) (sym (at' .angle))
+      subst₂ (Within (hueBound (chroma q))) (sym (at .angle)) (sym (at' .angle))
       (steady _ (chroma p) _ (chroma q) some' (omega (arith, at .spread)) (omega (arith, at' .spread, kept .upper))
       (rw (at .spread, at' .spread) (kept .above))
       (rw (at .spread, at' .spread) (kept .below)))
 
-  angles-within : AnglesWithin (60 over chroma q) (hue p) (hue q)
+  angles-within : AnglesWithin (hueBound (chroma q)) (hue p) (hue q)
   angles-within =
       either (p .g) (p .r)
       (λ gr.

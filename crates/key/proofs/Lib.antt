@@ -2,3 +2,5 @@ pub mod Chroma
 pub mod Hue
 pub mod Widths
 pub mod Written
+pub mod RoundedDown
+pub mod Examples

@@ -54,9 +54,13 @@ HuesAreAngles = (p : Pixel) → HueOf p
 abbrev pub AnglesWithin : Fraction → Fraction → Fraction → Type 0
 AnglesWithin w x y = Within w x y ⊎ (Within w (x ⊕ whole 360) y ⊎ Within w x (y ⊕ whole 360))
 
--- The answer to "keeps hue to what?": less than 60 / chroma degrees, the chroma being that of the pixel written.
+-- The answer to "keeps hue to what?", at a written chroma of c: less than 60 / c degrees.
+abbrev pub hueBound : ℕ → Fraction
+hueBound c = 60 over c
+
+-- Where the pixel written, q, is not grey, its hue is less than that from the hue of p.
 abbrev pub KeepsHue : Pixel → Pixel → Type 0
-KeepsHue p q = 0 < chroma q → AnglesWithin (60 over chroma q) (hue p) (hue q)
+KeepsHue p q = 0 < chroma q → AnglesWithin (hueBound (chroma q)) (hue p) (hue q)
 
 -- The same without an angle: p has in its channels lo, mid and hi the samples min ≤ mid ≤ max, and q, written for it, min', mid' and max'.
 -- Where the middle one lies between the others sets the hue within its sixth of a turn.

@@ -1,3 +1,5 @@
 pub mod Hue
 pub mod Widths
 pub mod Written
+pub mod RoundedDown
+pub mod Examples

@@ -16,7 +16,7 @@ near-window n d positive =
     record { above = omega arith; below = omega arith }
 
 -- a whole number that is less than one step above another is no larger
-less-step : (a b d : ℕ) → a * d < b * d + d → a ≤ b
+pub less-step : (a b d : ℕ) → a * d < b * d + d → a ≤ b
 less-step a b d h = omega (arith, lt-of-mul-lt-mul-right d {m = a} {n = b + 1} (omega (arith, add-mul b 1 d)))
 
 -- two numbers in one window are equal

@@ -1,0 +1,20 @@
+-- What the widths ask of the rounding, shown on a move that no call makes: each sample rounded down, where document 01 rounds to the nearest.
+-- Hue asks only that the three samples are rounded alike, and would be kept; the intensity would not.
+use Prim.Native.Nat.{ℕ, _+_, _*_, _/_, _<_, _≤_}
+use Rattle.pixel.specs.Move.{intensity, eachSample}
+use Rattle.pixel.specs.declared.Pixel.{Pixel}
+use Rattle.key.specs.Hue.{KeepsHue}
+
+-- Method 1's line for a target at most the sum, c × f / s, rounded down.
+abbrev pub roundedDown : Pixel → ℕ → Pixel
+roundedDown p f = eachSample (λ c. c * f / intensity p) p
+
+pub record KeptRoundingDown (p : Pixel) (f : ℕ) : Type 0 where
+  pub hue : KeepsHue p (roundedDown p f)
+  -- two below the target, in place of one: (1, 1, 1) to 2 is black
+  pub sumAbove : intensity (roundedDown p f) ≤ f
+  pub sumBelow : f ≤ intensity (roundedDown p f) + 2
+
+-- Claim: so it is for every pixel but black. Proved: proofs/RoundedDown.antt, `rounding-down-keeps-hue`.
+abbrev pub RoundingDownKeepsHue : Type 0
+RoundingDownKeepsHue = (p : Pixel) (f : ℕ) → 0 < intensity p → KeptRoundingDown p f

@@ -28,7 +28,10 @@ use Rattle.shot.proofs.Accuracy.{accuracy, step-brings}
 use Rattle.host.specs.CurveBytes.{curveEntries}
 use Rattle.host.specs.Host.{ColourCall, colourOutcome}
 use Rattle.host.proofs.Accuracy.{host-accurate}
-use Rattle.key.specs.Written.{WrittenWidths, CallsKeepWidths, HostKeepsWidths}
+use Rattle.still.specs.Agreement.{callsOf}
+use Rattle.still.specs.Still.{fileSamples}
+use Rattle.still.proofs.Agreement.{well-formed}
+use Rattle.key.specs.Written.{WrittenWidths, CallsKeepWidths, HostKeepsWidths, FilesKeepWidths}
 use Rattle.key.proofs.Widths.{keeps-widths}
 
 -- the source pixel has bytes for samples, and the entry is a target
@@ -86,3 +89,7 @@ host-keeps-widths c bytes w m =
     (λ e. good .shape e .range)
     bytes w m in
     written-widths w from (good .exact w m) (good .rules w m)
+
+pub files-keep-widths : FilesKeepWidths
+files-keep-widths file bytes legal destination same =
+    calls-keep-widths (callsOf (fileSamples file) destination) (well-formed file legal bytes destination same)

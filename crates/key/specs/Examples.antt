@@ -1,8 +1,9 @@
 -- Hues and moves in figures.
 use mathlib.Core.Path.{_≡_}
 use mathlib.Core.List.{List, [], _∷_, map}
-use Prim.Native.Nat.{ℕ, _+_, _-_, _*_}
+use Prim.Native.Nat.{ℕ, _+_, _-_, _*_, _/_, _≤_}
 use Rattle.rounding.specs.Fraction.{Fraction}
+use Rattle.rounding.specs.Near.{near}
 use Rattle.pixel.specs.Move.{moved}
 use Rattle.pixel.specs.declared.Method.{Method}
 use Rattle.pixel.specs.declared.Method.the-variants.{NaikMurthy, YangLee}
@@ -65,5 +66,9 @@ pub record ExamplesHold : Type 0 where
   -- red, yellow, green, cyan, blue and magenta are 60 degrees apart
   pub corners : map hue (rgb 255 0 0 ∷ rgb 255 255 0 ∷ rgb 0 255 0 ∷ rgb 0 255 255 ∷ rgb 0 0 255 ∷ rgb 255 0 255 ∷ [])
       ≡ map (λ (sixths : ℕ). degrees (sixths * 255) 255) (0 ∷ 1 ∷ 2 ∷ 3 ∷ 4 ∷ 5 ∷ [])
+  -- samples that are not rounded alike lose the hue: with green rounded down and the others to the nearest, the bound is passed
+  pub notAlike : let p = rgb 21 9 1 in
+      let q = rgb (near (21 * 17) 31) (9 * 17 / 31) (near (1 * 17) 31) in
+      (q .g - q .b) * (p .r - p .b) + (p .r - p .b) ≤ (p .g - p .b) * (q .r - q .b)
   -- rounding down may miss the intensity by two
   pub down : roundedDown (rgb 1 1 1) 2 ≡ rgb 0 0 0

@@ -1,5 +1,8 @@
--- The widths of a key for every pixel written (corollaries of demand 3, as `shot` and `host` state it).
+-- The widths of a key for every pixel written (corollaries of demand 3, as `shot`, `host` and `still` state it).
 use mathlib.Core.List.{List}
+use mathlib.Core.Path.{_≡_}
+use Prim.Native.Nat.{ℕ}
+use lib.ListN.{length}
 use Rattle.tables.specs.Table.{_among_}
 use Rattle.pixel.specs.Strip.{Bytes}
 use Rattle.colouring.specs.Written.{Written}
@@ -8,6 +11,8 @@ use Rattle.shot.specs.Book.{Call}
 use Rattle.shot.specs.Run.{Step, trace, Occurs, WellFormed}
 use Rattle.host.specs.Accuracy.{written as writtenByHost}
 use Rattle.host.specs.Host.{ColourCall}
+use Rattle.still.specs.Agreement.{callsOf}
+use Rattle.still.specs.Still.{fileSamples, Legal}
 use Rattle.key.specs.Widths.{KeyWidths}
 
 -- The pixel keeps the widths, by its own method and the curve's entry for its sum.
@@ -23,3 +28,11 @@ CallsKeepWidths =
 -- Claim: and every pixel that a host colouring writes. Proved: proofs/Written.antt, `host-keeps-widths`.
 abbrev pub HostKeepsWidths : Type 0
 HostKeepsWidths = (c : ColourCall) → Bytes (c .source) → (w : Written) → w among writtenByHost c → WrittenWidths w
+
+-- Claim: and every pixel written for a legal file, whose pixels are those of a list of calls (`FilesFollowShots`). Proved:
+-- proofs/Written.antt, `files-keep-widths`.
+abbrev pub FilesKeepWidths : Type 0
+FilesKeepWidths =
+    (file : List ℕ) → Bytes file → Legal file → (destination : List ℕ) → length destination ≡ length (fileSamples file)
+    → (before : List Step) (t : Step) → Occurs (trace (callsOf (fileSamples file) destination)) before t
+    → (w : Written) → w among writtenInStep t → WrittenWidths w

@@ -56,7 +56,7 @@ module _ (file : List ℕ) (legal : Legal file) where
     calls-write = append-nil _ ∙ ap (λ (o : Outcome). o .bytes) colouring-is
 
     -- the calls bring bytes
-    well-formed : (c : Call) → c among callsOf samples destination → WellFormed c
+    pub well-formed : (c : Call) → c among callsOf samples destination → WellFormed c
     well-formed c m =
         ⊎-elim (λ (e : c ≡ measuring samples). subst WellFormed (sym e) sample-bytes)
         (λ m. ⊎-elim (λ (e : c ≡ fixing fileChoice). subst WellFormed (sym e) tt)

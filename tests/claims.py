@@ -14,7 +14,7 @@ DEFINED = re.compile(r"^(?:abbrev pub|unfoldable pub|pub record|pub data) (\S+)"
 BARE = re.compile(r"^abbrev pub (\S+) : Type 0$", re.M)
 # a record of plain data has only types such as ℕ and List ℕ for its fields
 RECORD = re.compile(r"^pub record (\S+) : Type 0 where\n((?:(?:  .*)?\n)*)", re.M)
-STATES = re.compile(r"[≡≤<≈→]")
+STATES = re.compile(r"[≡≤<≈≼≺→⊎⊥]|\bWithin\b")
 
 
 def without_comments(text):

@@ -4,7 +4,8 @@
    hue and are left out. That leaves 2,828,800 pixels and 766 targets, for each of the two methods: 4,333,721,600 moves in all.
 
    In sixths of a turn hue moves by |(mid' - min') (max - min) - (mid - min) (max' - min')| / ((max - min) (max' - min')), and the bound is
-   1 / (max' - min'). So a move uses as much of the bound as the numerator's size is of max - min.
+   1 / (max' - min'). So a move uses as much of the bound as the numerator is of max - min. That is the hue's move because the samples stay in
+   order, which each table of samples is checked for.
 
    Writes one line for each written chroma from 1 to 255: the chroma, the largest such part as size and max - min, and the first move that
    uses it. Where hue does not move at all, the part is 0 / 1 and the move is all zeros. Says on standard error how many moves it tried. */
@@ -64,14 +65,23 @@ static long try_sum(struct worst worst[SAMPLES], const int to[SAMPLES], int s, i
     return moves;
 }
 
+/* what each sample of a pixel of sum s moves to; they stay in order */
+static void fill(int to[SAMPLES], sample_move *move, int s, int target)
+{
+    for (int c = least(s); c <= greatest(s); c++) {
+        to[c] = move(s, target, c);
+        if (c > least(s) && to[c] < to[c - 1])
+            fprintf(stderr, "sum %d, target %d: samples out of order\n", s, target), exit(1);
+    }
+}
+
 static long try_all(struct worst worst[SAMPLES], sample_move *move)
 {
     long moves = 0;
     for (int s = 1; s < SUMS - 1; s++)
         for (int target = 0; target < SUMS; target++) {
             int to[SAMPLES];
-            for (int c = least(s); c <= greatest(s); c++)
-                to[c] = move(s, target, c);
+            fill(to, move, s, target);
             moves += try_sum(worst, to, s, target);
         }
     return moves;

@@ -1,17 +1,16 @@
 -- Hue from the differences of channels.
-use mathlib.Core.Path.{_≡_, refl, sym, ap, ap₂, subst, subst₂, _∙_}
-use mathlib.Core.Logic.{_⊎_, inl, inr, ⊎-elim}
-use Prim.Native.Nat.{ℕ, _+_, _-_, _*_, _<_, _≤_, min, max}
+use mathlib.Core.Path.{_≡_, sym, ap, ap₂, subst, subst₂, _∙_}
+use mathlib.Core.Logic.{inl, inr}
+use Prim.Native.Nat.{ℕ, _+_, _-_, _*_, _<_, _≤_}
 use native.Mathlib.Nat.{mul-comm, mul-assoc, mul-left-comm, mul-one, add-mul, mul-add, mul-le-mul-right, mul-lt-mul-of-pos-right, lt-of-mul-lt-mul-right}
 use native.Mathlib.Omega.{arith}
 use borrow.Author.Tests.{le-leb, lt-leb, eq-eqb, ne-eqb}
 use Rattle.rounding.specs.Fraction.{Fraction, whole, _over_, _⊕_, _≺_, Within}
 use Rattle.tables.proofs.Cases.{either}
-use Rattle.pixel.specs.Accuracy.{withinOneStep}
 use Rattle.pixel.specs.Move.{Channel, Channel.red, Channel.green, Channel.blue, sample}
 use Rattle.pixel.specs.declared.Pixel.{Pixel}
 use Rattle.key.proofs.Chroma.{not-above, not-below, spread-is, grey-stays}
-use Rattle.key.specs.Hue.{greatest, least, chroma, degrees, hue, hueBound, HueOf, HuesAreAngles, AnglesWithin, KeepsHue, MiddleKept, KeepsMiddle, KeepsDifferences, DifferencesKeepHue}
+use Rattle.key.specs.Hue.{greatest, chroma, sixths, hue, hueBound, HuesAreAngles, AnglesWithin, KeepsHue, MiddleKept, KeepsMiddle, KeepsDifferences, DifferencesKeepHue}
 
 -- The law, over samples and fractions. Two neighbouring differences m and n come out as u and v, each kept by the factor num / den to less
 -- than w parts of a step; then u / m and v / n cannot part by more than that.
@@ -22,7 +21,7 @@ cross num den w m n u v first second some =
     omega (arith, mul-le-mul-right n first, add-mul (u * den) 1 n, add-mul (m * num) w n) in
     let two : n * num * m + m ≤ v * den * m + w * m =
     omega (arith, mul-le-mul-right m second, add-mul (n * num) 1 m, add-mul (v * den) w m) in
-    let same : m * num * n ≡ n * num * m = simp (mul-assoc, mul-comm, mul-left-comm) in
+    let same : m * num * n ≡ n * num * m = simp (mul-assoc, mul-comm) in
     let left : u * n * den ≡ u * den * n = simp (mul-assoc, mul-comm, mul-left-comm) in
     let right : m * v * den ≡ v * den * m = simp (mul-assoc, mul-comm, mul-left-comm) in
     omega (arith, add-mul m n w, mul-comm m w, mul-comm n w)
@@ -56,23 +55,23 @@ keeps-middle k p q d lo mid hi l u s =
     }
 
 -- Angles: x / c and y / c' sixths of a turn are less than 1 / c' apart, both sides times c × c'.
-within : (x y c c' : ℕ) → 0 < c' → x * c' < y * c + c → y * c < x * c' + c → Within (hueBound c') (degrees x c) (degrees y c')
+within : (x y c c' : ℕ) → 0 < c' → x * c' < y * c + c → y * c < x * c' + c → Within (hueBound c') (sixths x c) (sixths y c')
 within x y c c' positive first second =
     let one : x * c' * (60 * c') < (y * c + c) * (60 * c') = mul-lt-mul-of-pos-right first (omega arith) in
     let two : y * c * (60 * c') < (x * c' + c) * (60 * c') = mul-lt-mul-of-pos-right second (omega arith) in
     (subst₂ _<_ ac₁ ac₂ one, subst₂ _<_ ac₃ ac₄ two)
   where
     ac₁ : x * c' * (60 * c') ≡ 60 * x * (c' * c')
-    ac₁ = simp (mul-assoc, mul-comm, mul-left-comm)
+    ac₁ = simp (mul-assoc, mul-left-comm)
 
     ac₂ : (y * c + c) * (60 * c') ≡ (60 * y * c' + 60 * c') * c
-    ac₂ = simp (add-mul, mul-add, mul-assoc, mul-comm, mul-left-comm)
+    ac₂ = simp (add-mul, mul-assoc, mul-comm, mul-left-comm)
 
     ac₃ : y * c * (60 * c') ≡ 60 * y * (c * c')
-    ac₃ = simp (mul-assoc, mul-comm, mul-left-comm)
+    ac₃ = simp (mul-assoc, mul-left-comm)
 
     ac₄ : (x * c' + c) * (60 * c') ≡ (60 * x * c' + 60 * c) * c'
-    ac₄ = simp (add-mul, mul-add, mul-assoc, mul-comm, mul-left-comm)
+    ac₄ = simp (add-mul, mul-assoc, mul-left-comm)
 
 -- Places on the circle, in parts of a sixth that has c of them: m parts after k sixths, and m parts before.
 abbrev after : ℕ → ℕ → ℕ → ℕ
@@ -85,17 +84,17 @@ before k c m = k * c - m
 abbrev Steady : (ℕ → ℕ → ℕ) → Type 0
 Steady place =
     (m c m' c' : ℕ) → 0 < c' → m ≤ c → m' ≤ c' → m' * c < m * c' + c → m * c' < m' * c + c
-    → Within (hueBound c') (degrees (place c m) c) (degrees (place c' m') c')
+    → Within (hueBound c') (sixths (place c m) c) (sixths (place c' m') c')
 
 -- k sixths, over either chroma
-sixths : (k c c' : ℕ) → k * c * c' ≡ k * c' * c
-sixths k c c' = simp (mul-assoc, mul-comm)
+whole-sixths : (k c c' : ℕ) → k * c * c' ≡ k * c' * c
+whole-sixths k c c' = simp (mul-assoc, mul-comm)
 
 after-steady : (k : ℕ) → Steady (after k)
 after-steady k m c m' c' some fits fits' above below =
     let product : after k c m * c' ≡ k * c * c' + m * c' = add-mul (k * c) m c' in
     let product' : after k c' m' * c ≡ k * c' * c + m' * c = add-mul (k * c') m' c in
-    within (after k c m) (after k c' m') c c' some (omega (arith, sixths k c c')) (omega (arith, sixths k c c'))
+    within (after k c m) (after k c' m') c c' some (omega (arith, whole-sixths k c c')) (omega (arith, whole-sixths k c c'))
 
 before-steady : (k : ℕ) → 0 < k → Steady (before k)
 before-steady k positive m c m' c' some fits fits' above below =
@@ -103,24 +102,24 @@ before-steady k positive m c m' c' some fits fits' above below =
     ap (λ (t : ℕ). t * c') (omega (arith, mul-le-mul-right c positive)) ∙ add-mul (before k c m) m c' in
     let product' : k * c' * c ≡ before k c' m' * c + m' * c =
     ap (λ (t : ℕ). t * c) (omega (arith, mul-le-mul-right c' positive)) ∙ add-mul (before k c' m') m' c in
-    within (before k c m) (before k c' m') c c' some (omega (arith, sixths k c c')) (omega (arith, sixths k c c'))
+    within (before k c m) (before k c' m') c c' some (omega (arith, whole-sixths k c c')) (omega (arith, whole-sixths k c c'))
 
 -- The lines of hue.
 module _ (p : Pixel) where
-  red-up : p .b ≤ p .g → p .g ≤ p .r → hue p ≡ degrees (p .g - p .b) (chroma p)
+  red-up : p .b ≤ p .g → p .g ≤ p .r → hue p ≡ sixths (p .g - p .b) (chroma p)
   unfolding hue
   red-up l u = simp (eq-eqb (p .r) (greatest p) (omega arith), le-leb _ _ l)
 
-  red-down : p .g < p .b → p .b ≤ p .r → hue p ≡ degrees (6 * chroma p + p .g - p .b) (chroma p)
+  red-down : p .g < p .b → p .b ≤ p .r → hue p ≡ sixths (6 * chroma p + p .g - p .b) (chroma p)
   unfolding hue
   red-down l u = simp (eq-eqb (p .r) (greatest p) (omega arith), lt-leb _ _ l)
 
-  green-greatest : p .r < p .g → p .b ≤ p .g → hue p ≡ degrees (2 * chroma p + p .b - p .r) (chroma p)
+  green-greatest : p .r < p .g → p .b ≤ p .g → hue p ≡ sixths (2 * chroma p + p .b - p .r) (chroma p)
   unfolding hue
   green-greatest l u =
       simp (ne-eqb (p .r) (greatest p) (λ (e : p .r ≡ greatest p). omega arith), eq-eqb (p .g) (greatest p) (omega arith))
 
-  blue-greatest : p .r < p .b → p .g < p .b → hue p ≡ degrees (4 * chroma p + p .r - p .g) (chroma p)
+  blue-greatest : p .r < p .b → p .g < p .b → hue p ≡ sixths (4 * chroma p + p .r - p .g) (chroma p)
   unfolding hue
   blue-greatest l u =
       simp (
@@ -129,7 +128,7 @@ module _ (p : Pixel) where
       )
 
 -- a place before the end of the sixth sixth is less than a whole turn on
-before-turn : (p : Pixel) (n : ℕ) → hue p ≡ degrees n (chroma p) → n < 6 * chroma p → hue p ≺ whole 360
+before-turn : (p : Pixel) (n : ℕ) → hue p ≡ sixths n (chroma p) → n < 6 * chroma p → hue p ≺ whole 360
 before-turn p n e less = subst (λ (h : Fraction). h ≺ whole 360) (sym e) (omega arith)
 
 pub hues-are-angles : HuesAreAngles
@@ -138,7 +137,7 @@ hues-are-angles p = record {
   redFits = omega arith;
   greenFits = omega arith;
   blueFits = omega arith;
-  turn = λ some.
+  lessThanTurn = λ some.
       either (p .g) (p .r)
       (λ gr.
       either (p .b) (p .g)
@@ -156,13 +155,13 @@ hues-are-angles p = record {
 -- The channels lo, mid and hi of a pixel are in that order, and then the angle h is at this place.
 record Placed (p : Pixel) (lo mid hi : Channel) (place : ℕ → ℕ → ℕ) (h : Fraction) : Type 0 where
   spread : chroma p ≡ sample p hi - sample p lo
-  angle : h ≡ degrees (place (chroma p) (sample p mid - sample p lo)) (chroma p)
+  angle : h ≡ sixths (place (chroma p) (sample p mid - sample p lo)) (chroma p)
 
 -- The hue of a pixel that is not grey, by the order of its channels. Where two of them are equal, the lines of hue on both sides agree, up
 -- to a whole turn.
 module _ (p : Pixel) (some : 0 < chroma p) where
-  hue-is : {n m : ℕ} → hue p ≡ degrees n (chroma p) → n ≡ m → hue p ≡ degrees m (chroma p)
-  hue-is e same = e ∙ ap (λ (t : ℕ). degrees t (chroma p)) same
+  hue-is : {n m : ℕ} → hue p ≡ sixths n (chroma p) → n ≡ m → hue p ≡ sixths m (chroma p)
+  hue-is e same = e ∙ ap (λ (t : ℕ). sixths t (chroma p)) same
 
   from-red : p .b ≤ p .g → p .g ≤ p .r → Placed p blue green red (after 0) (hue p)
   from-red l u =

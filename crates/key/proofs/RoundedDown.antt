@@ -5,7 +5,7 @@ use native.Mathlib.Nat.{add-mul, mul-comm, mul-le-mul-right, div-mul-le-self, lt
 use native.Mathlib.Omega.{arith}
 use Rattle.rounding.specs.Fraction.{_over_}
 use Rattle.rounding.proofs.Laws.{less-step}
-use Rattle.pixel.specs.Move.{Channel, sample, intensity, eachSample}
+use Rattle.pixel.specs.Move.{Channel, sample, intensity}
 use Rattle.pixel.specs.declared.Pixel.{Pixel}
 use Rattle.pixel.proofs.Channels.{sample-each}
 use Rattle.key.specs.Hue.{KeepsDifferences}

@@ -1,20 +1,19 @@
 -- A moved pixel keeps the widths of a key: all but the half step follow from the rules of demand 3.
 use mathlib.Core.Path.{_≡_, sym, subst}
-use mathlib.Core.Logic.{_⊎_, inl, inr, ⊎-elim}
-use Prim.Native.Nat.{ℕ, _<_, _≤_}
-use native.Mathlib.Nat.{le-refl, le-trans, mul-comm, mul-one, one-mul}
+use mathlib.Core.Logic.{_⊎_, inl, inr}
+use Prim.Native.Nat.{ℕ, _≤_}
 use native.Mathlib.Omega.{arith}
-use Rattle.rounding.specs.Fraction.{Fraction, whole, _⊗_, _over_, Within}
+use Rattle.rounding.specs.Fraction.{Fraction, _over_}
 use Rattle.tables.proofs.Cases.{either}
-use Rattle.pixel.specs.Accuracy.{factor, PixelAccurate, withinOneStep, OwnEnds}
-use Rattle.pixel.specs.Move.{Channel, Channel.red, Channel.green, Channel.blue, sample, InRange, intensity, moved}
-use Rattle.pixel.specs.Paper.{paper, WithinHalf}
+use Rattle.pixel.specs.Accuracy.{factor, PixelAccurate, OwnEnds}
+use Rattle.pixel.specs.Move.{InRange, intensity, moved}
+use Rattle.pixel.specs.Paper.{SamplesWithinHalf}
 use Rattle.pixel.specs.declared.Method.{Method}
 use Rattle.pixel.specs.declared.Pixel.{Pixel}
 use Rattle.pixel.proofs.Accurate.{moves-are-accurate, ends-stay}
 use Rattle.pixel.proofs.Paper.{moves-are-within-half}
 use Rattle.pixel.proofs.Strips.{intensity-in-range}
-use Rattle.key.specs.Hue.{greatest, least, chroma, KeepsHue, KeepsMiddle, KeepsDifferences}
+use Rattle.key.specs.Hue.{KeepsDifferences}
 use Rattle.key.specs.Widths.{KeyWidths, MovesKeepHue, MovesKeepWidths}
 use Rattle.key.proofs.Chroma.{grey-stays, keeps-chroma}
 use Rattle.key.proofs.Hue.{differences-keep-hue}
@@ -25,8 +24,7 @@ two-rules a = record { denominator = a .denominator; order = a .order; differenc
 
 -- a pixel that keeps the rules, and whose samples are within half a step, keeps the widths
 pub keeps-widths : (m : Method) (f : ℕ) (p q : Pixel) → PixelAccurate (factor m (intensity p) f) f p q
-    → ((a : Channel) → WithinHalf (sample q a) (paper m (intensity p over 255) (f over 255) (sample p a over 255)))
-    → KeyWidths m f p q
+    → SamplesWithinHalf m f p q → KeyWidths m f p q
 keeps-widths m f p q accurate half =
     let k = factor m (intensity p) f in
     let d = two-rules accurate in
@@ -42,7 +40,7 @@ keeps-widths m f p q accurate half =
 
 pub moves-keep-widths : MovesKeepWidths
 moves-keep-widths m p f bytes le ends =
-    keeps-widths m f p (moved m p f) (moves-are-accurate m p f bytes le ends) (λ a. moves-are-within-half m p f a bytes le)
+    keeps-widths m f p (moved m p f) (moves-are-accurate m p f bytes le ends) (moves-are-within-half m p f bytes le)
 
 -- Black and white stay for every target, so the rules that hue rests on hold without the ends' own targets.
 unmoved : (p : Pixel) → KeepsDifferences (1 over 1) p p

@@ -1,4 +1,4 @@
--- The widths of a key follow from demand 3, for every pixel written.
+-- The widths of a key follow from demands 2 and 3, for every pixel written.
 use mathlib.Core.Path.{_≡_, refl, sym, subst}
 use mathlib.Core.Bool.{Bool, true, false, cond}
 use mathlib.Core.List.{List, [], List·Memᴰ·not-nil}
@@ -8,25 +8,23 @@ use native.Mathlib.Omega.{arith}
 use borrow.Author.Tests.{eqb-true}
 use lib.Dec.{eqb}
 use lib.ListN.{length}
-use Rattle.rounding.specs.Fraction.{_over_}
 use Rattle.tables.specs.Table.{_among_}
 use Rattle.tables.proofs.Laws.{tabulate-member}
 use Rattle.pixel.specs.Methods.{methodOf}
-use Rattle.pixel.specs.Move.{sample, InRange, intensity}
-use Rattle.pixel.specs.Paper.{paper, WithinHalf}
+use Rattle.pixel.specs.Move.{InRange}
+use Rattle.pixel.specs.Paper.{SamplesWithinHalf}
 use Rattle.pixel.specs.Strip.{Bytes}
 use Rattle.pixel.specs.declared.Method.{Method}
-use Rattle.pixel.specs.declared.Pixel.{Pixel}
 use Rattle.pixel.proofs.Paper.{moves-are-within-half}
 use Rattle.pixel.proofs.Strips.{pixel-in-range, intensity-in-range}
 use Rattle.curve.specs.Curve.{EntriesInRange, IsToneCurve}
 use Rattle.colouring.specs.Written.{Written, WrittenExact, WrittenAccurate, pixelsWritten}
 use Rattle.shot.specs.Accuracy.{requested, entries}
 use Rattle.shot.specs.Book.{Call, Call.opening, Call.measuring, Call.fixing, Call.colouring}
-use Rattle.shot.specs.Run.{Step, number, WellFormed}
+use Rattle.shot.specs.Run.{number, WellFormed}
 use Rattle.shot.proofs.Accuracy.{accuracy, step-brings}
 use Rattle.host.specs.CurveBytes.{curveEntries}
-use Rattle.host.specs.Host.{ColourCall, colourOutcome}
+use Rattle.host.specs.Host.{colourOutcome}
 use Rattle.host.proofs.Accuracy.{host-accurate}
 use Rattle.still.specs.Agreement.{callsOf}
 use Rattle.still.specs.Still.{fileSamples}
@@ -56,10 +54,8 @@ from-bytes n method curve source bytes targets samples w m = go (eqb n 0) refl m
 written-widths : (w : Written) → FromBytes w → WrittenExact w → WrittenAccurate w → WrittenWidths w
 written-widths w from exact rules =
     keeps-widths (w .method) (w .entry) (w .input) (w .output) rules
-    (λ a.
-    subst (λ (q : Pixel). WithinHalf (sample q a) (paper (w .method) (intensity (w .input) over 255) (w .entry over 255) (sample (w .input) a over 255)))
-    (sym exact)
-    (moves-are-within-half (w .method) (w .input) (w .entry) a (from .input) (from .entry)))
+    (subst (SamplesWithinHalf (w .method) (w .entry) (w .input)) (sym exact)
+    (moves-are-within-half (w .method) (w .input) (w .entry) (from .input) (from .entry)))
 
 -- what a call asks to be coloured is bytes
 requested-bytes : (c : Call) → WellFormed c → Bytes (requested c .source)

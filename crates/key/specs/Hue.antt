@@ -1,4 +1,4 @@
--- Hue and chroma, the two that a key reads of a pixel beside its intensity, as HSV and HSL have them; and how far hue may move.
+-- Hue, as HSV and HSL have it, and chroma, the part of a pixel that is not grey; and how far hue may move.
 use mathlib.Core.Bool.{cond}
 use mathlib.Core.Logic.{_⊎_}
 use Prim.Native.Nat.{ℕ, _+_, _-_, _*_, _<_, _≤_, min, max}
@@ -15,13 +15,13 @@ greatest p = max (p .r) (max (p .g) (p .b))
 abbrev pub least : Pixel → ℕ
 least p = min (p .r) (min (p .g) (p .b))
 
--- Chroma, in code values. A grey pixel has none.
+-- Chroma, in code values: what HSV and HSL divide to get their saturations. A grey pixel has none.
 unfoldable pub chroma : Pixel → ℕ
 chroma p = greatest p - least p
 
 -- n / c sixths of a turn, in degrees.
-abbrev pub degrees : ℕ → ℕ → Fraction
-degrees n c = (60 * n) over c
+abbrev pub sixths : ℕ → ℕ → Fraction
+sixths n c = (60 * n) over c
 
 -- Hue in degrees, from 0 up to 360. A grey pixel has none: its fraction would be over 0.
 unfoldable pub hue : Pixel → Fraction
@@ -30,25 +30,25 @@ hue p =
     cond (eqb (p .r) (greatest p))
     (cond (leb (p .b) (p .g))
     -- red is greatest: 60 × (g − b) / c
-    (degrees (p .g - p .b) c)
+    (sixths (p .g - p .b) c)
     -- and where that is below 0, a whole turn further on: 60 × (6 + (g − b) / c)
-    (degrees (6 * c + p .g - p .b) c))
+    (sixths (6 * c + p .g - p .b) c))
     (cond (eqb (p .g) (greatest p))
     -- green is: 60 × (2 + (b − r) / c)
-    (degrees (2 * c + p .b - p .r) c)
+    (sixths (2 * c + p .b - p .r) c)
     -- blue is: 60 × (4 + (r − g) / c)
-    (degrees (4 * c + p .r - p .g) c))
+    (sixths (4 * c + p .r - p .g) c))
 
 -- That is an angle: no subtraction is cut off at 0, and the hue of a pixel that is not grey is less than a whole turn.
-pub record HueOf (p : Pixel) : Type 0 where
+pub record HueIsAngle (p : Pixel) : Type 0 where
   pub redFits : p .b ≤ 6 * chroma p + p .g
   pub greenFits : p .r ≤ 2 * chroma p + p .b
   pub blueFits : p .g ≤ 4 * chroma p + p .r
-  pub turn : 0 < chroma p → hue p ≺ whole 360
+  pub lessThanTurn : 0 < chroma p → hue p ≺ whole 360
 
 -- Claim: so it is for every pixel. Proved: proofs/Hue.antt, `hues-are-angles`.
 abbrev pub HuesAreAngles : Type 0
-HuesAreAngles = (p : Pixel) → HueOf p
+HuesAreAngles = (p : Pixel) → HueIsAngle p
 
 -- Two angles are less than w degrees apart on the circle: as they stand, or one of them a whole turn further on.
 abbrev pub AnglesWithin : Fraction → Fraction → Fraction → Type 0
@@ -62,8 +62,8 @@ hueBound c = 60 over c
 abbrev pub KeepsHue : Pixel → Pixel → Type 0
 KeepsHue p q = 0 < chroma q → AnglesWithin (hueBound (chroma q)) (hue p) (hue q)
 
--- The same without an angle: p has in its channels lo, mid and hi the samples min ≤ mid ≤ max, and q, written for it, min', mid' and max'.
--- Where the middle one lies between the others sets the hue within its sixth of a turn.
+-- More than that, and without an angle: p has in its channels lo, mid and hi the samples min ≤ mid ≤ max, and q, written for it, min', mid'
+-- and max'. The order says in which sixth of the turn a hue is, and the middle sample where in it.
 pub record MiddleKept (p q : Pixel) (lo mid hi : Channel) : Type 0 where
   -- min' ≤ mid' ≤ max'
   pub lower : sample q lo ≤ sample q mid

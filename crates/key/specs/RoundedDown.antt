@@ -1,5 +1,5 @@
 -- What the widths ask of the rounding, shown on a move that no call makes: each sample rounded down, where document 01 rounds to the nearest.
--- Hue asks only that the three samples are rounded alike, and would be kept; the intensity would not.
+-- Hue asks only for errors less than a full step apart, and these have them, so it would be kept; the half step and the intensity would not.
 use Prim.Native.Nat.{ℕ, _+_, _*_, _/_, _<_, _≤_}
 use Rattle.pixel.specs.Move.{intensity, eachSample}
 use Rattle.pixel.specs.declared.Pixel.{Pixel}

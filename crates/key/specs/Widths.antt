@@ -1,10 +1,11 @@
--- The widths of a key: how far a written pixel may land from the paper's exact one, in what a colourist sets a key by.
+-- The widths of a key. A key picks pixels by ranges of hue, chroma and intensity; a width is how far such a range has to be opened, since
+-- the written pixel lies so far from the pixel going in (hue), or from what the paper has for it (chroma, intensity, samples).
 use mathlib.Core.Path.{_≡_}
 use Prim.Native.Nat.{ℕ, _+_, _≤_}
-use Rattle.rounding.specs.Fraction.{whole, _over_, _⊗_, Within}
+use Rattle.rounding.specs.Fraction.{whole, _⊗_, Within}
 use Rattle.pixel.specs.Accuracy.{factor, OwnEnds}
-use Rattle.pixel.specs.Move.{Channel, sample, InRange, intensity, moved}
-use Rattle.pixel.specs.Paper.{paper, WithinHalf}
+use Rattle.pixel.specs.Move.{InRange, intensity, moved}
+use Rattle.pixel.specs.Paper.{SamplesWithinHalf}
 use Rattle.pixel.specs.declared.Method.{Method}
 use Rattle.pixel.specs.declared.Pixel.{Pixel}
 use Rattle.key.specs.Hue.{chroma, KeepsHue, KeepsMiddle}
@@ -16,7 +17,7 @@ pub record MovesKeepHue : Type 0 where
 
 -- For a pixel p that is written as q by the method m, with the entry f for its intensity:
 pub record KeyWidths (m : Method) (f : ℕ) (p q : Pixel) : Type 0 where
-  -- hue moves by less than 60 / chroma degrees, the chroma being the written one
+  -- hue moves by less than 60 / chroma degrees, the chroma being the written one; and the same as a place of the middle sample
   pub hueWidth : KeepsHue p q
   pub middle : KeepsMiddle p q
   -- the chroma is less than a full step from the factor times the chroma going in
@@ -27,8 +28,8 @@ pub record KeyWidths (m : Method) (f : ℕ) (p q : Pixel) : Type 0 where
   -- grey stays grey
   pub grey : chroma p ≡ 0 → chroma q ≡ 0
   -- and each sample is at most half a step from the exact value of the paper's formula
-  pub samples : (a : Channel) → WithinHalf (sample q a) (paper m (intensity p over 255) (f over 255) (sample p a over 255))
+  pub samples : SamplesWithinHalf m f p q
 
--- Claim: every move keeps them. Proved: proofs/Widths.antt, `moves-keep-widths`.
+-- Claim: every move keeps them, that of black and white to their own targets. Proved: proofs/Widths.antt, `moves-keep-widths`.
 abbrev pub MovesKeepWidths : Type 0
 MovesKeepWidths = (m : Method) (p : Pixel) (f : ℕ) → InRange p → f ≤ 765 → OwnEnds p f → KeyWidths m f p (moved m p f)

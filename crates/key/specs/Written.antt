@@ -1,4 +1,4 @@
--- The widths of a key for every pixel written (corollaries of demand 3, as `shot`, `host` and `still` state it).
+-- The widths of a key for every pixel written (corollaries of demands 2 and 3, as `shot`, `host` and `still` state them).
 use mathlib.Core.List.{List}
 use mathlib.Core.Path.{_≡_}
 use Prim.Native.Nat.{ℕ}
@@ -19,7 +19,7 @@ use Rattle.key.specs.Widths.{KeyWidths}
 abbrev pub WrittenWidths : Written → Type 0
 WrittenWidths w = KeyWidths (w .method) (w .entry) (w .input) (w .output)
 
--- Claim: so does every pixel written in any list of calls, refused ones included. Proved: proofs/Written.antt, `calls-keep-widths`.
+-- Claim: so does every pixel written in any list of calls, of which any may be refused. Proved: proofs/Written.antt, `calls-keep-widths`.
 abbrev pub CallsKeepWidths : Type 0
 CallsKeepWidths =
     (calls : List Call) → ((c : Call) → c among calls → WellFormed c)

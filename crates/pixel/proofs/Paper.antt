@@ -228,7 +228,7 @@ moves-round-the-paper m p f a bytes le =
 
 pub moves-are-within-half : MovesAreWithinHalf
 unfolding moved
-moves-are-within-half m p f a bytes le =
+moves-are-within-half m p f bytes le a =
     rw (sample-each (movedSample m (intensity p) f) p a)
     (sample-agrees m (intensity p) f (sample p a) (inside p f bytes le a) .half)
 

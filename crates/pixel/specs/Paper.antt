@@ -50,17 +50,21 @@ paperBy YangLee = paper₂
 unfoldable pub paper : Method → Fraction → Fraction → Fraction → Exact
 paper m l f p = cond (l ≼ whole 0) (is (whole 0)) (cond (whole 3 ≼ l) (is (whole 1)) (paperBy m l f p))
 
+-- The paper's sample for a channel of the pixel p and the target f: l = s/255, f(l) = f/255 and p = c/255.
+abbrev pub exactSample : Method → Pixel → ℕ → Channel → Exact
+exactSample m p f a = paper m (intensity p over 255) (f over 255) (sample p a over 255)
+
 -- n is the exact sample in code values, rounded once: near(255 x), or 255 − near(255 x).
 abbrev pub Rounds : ℕ → Exact → Type 0
 Rounds n (is x) = n ≡ nearest (whole 255 ⊗ x)
 Rounds n (oneMinus x) = n + nearest (whole 255 ⊗ x) ≡ 255
 
--- Claim: each sample of a moved pixel is the paper's, at l = s/255, f(l) = f/255 and p = c/255, rounded once.
+-- Claim: each sample of a moved pixel is the paper's, rounded once.
 -- Proved: proofs/Paper.antt, `moves-round-the-paper`.
 abbrev pub MovesRoundThePaper : Type 0
 MovesRoundThePaper =
     (m : Method) (p : Pixel) (f : ℕ) (a : Channel) → InRange p → f ≤ 765
-    → Rounds (sample (moved m p f) a) (paper m (intensity p over 255) (f over 255) (sample p a over 255))
+    → Rounds (sample (moved m p f) a) (exactSample m p f a)
 
 -- The exact sample in code values: 255 x, or 255 (1 − x).
 abbrev pub codeValue : Exact → Fraction
@@ -73,11 +77,13 @@ abbrev pub WithinHalf : ℕ → Exact → Type 0
 WithinHalf n (is x) = NearestHalfUp n (codeValue (is x) .num) (codeValue (is x) .den)
 WithinHalf n (oneMinus x) = NearestHalfDown n (codeValue (oneMinus x) .num) (codeValue (oneMinus x) .den)
 
--- Claim: so it is for each sample of a moved pixel. Proved: proofs/Paper.antt, `moves-are-within-half`.
+-- So it is for each sample of q, written for p with the target f.
+abbrev pub SamplesWithinHalf : Method → ℕ → Pixel → Pixel → Type 0
+SamplesWithinHalf m f p q = (a : Channel) → WithinHalf (sample q a) (exactSample m p f a)
+
+-- Claim: so it is for every moved pixel. Proved: proofs/Paper.antt, `moves-are-within-half`.
 abbrev pub MovesAreWithinHalf : Type 0
-MovesAreWithinHalf =
-    (m : Method) (p : Pixel) (f : ℕ) (a : Channel) → InRange p → f ≤ 765
-    → WithinHalf (sample (moved m p f) a) (paper m (intensity p over 255) (f over 255) (sample p a over 255))
+MovesAreWithinHalf = (m : Method) (p : Pixel) (f : ℕ) → InRange p → f ≤ 765 → SamplesWithinHalf m f p (moved m p f)
 
 -- The exact sample lies from 0 to 1: no channel leaves the cube, and 1 − x is not cut off at 0.
 abbrev pub InCube : Exact → Type 0
@@ -88,7 +94,7 @@ InCube (oneMinus x) = T (x ≼ whole 1)
 abbrev pub PaperStaysInTheCube : Type 0
 PaperStaysInTheCube =
     (m : Method) (p : Pixel) (f : ℕ) (a : Channel) → InRange p → f ≤ 765
-    → InCube (paper m (intensity p over 255) (f over 255) (sample p a over 255))
+    → InCube (exactSample m p f a)
 
 -- No divisor of the formulas above is 0, and none of their other subtractions is cut off at 0.
 pub record NothingCutOff (l f p : Fraction) : Type 0 where

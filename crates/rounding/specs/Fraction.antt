@@ -46,7 +46,7 @@ x ≼ y = leb (x .num * y .den) (y .num * x .den)
 abbrev pub _≺_ : Fraction → Fraction → Type 0
 x ≺ y = x .num * y .den < y .num * x .den
 
--- x and y are less than w apart (neither side holds where a denominator is 0)
+-- x and y are less than w apart, where w's denominator is positive (where x's or y's is 0, this does not hold)
 abbrev pub Within : Fraction → Fraction → Fraction → Type 0
 Within w x y = (x ≺ y ⊕ w) × (y ≺ x ⊕ w)
 

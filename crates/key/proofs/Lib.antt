@@ -2,5 +2,6 @@ pub mod Chroma
 pub mod Hue
 pub mod Widths
 pub mod Written
+pub mod Paper
 pub mod RoundedDown
 pub mod Examples

@@ -1,5 +1,6 @@
 pub mod Hue
 pub mod Widths
 pub mod Written
+pub mod Paper
 pub mod RoundedDown
 pub mod Examples

@@ -38,8 +38,8 @@ one-minus-ratio x z = ap₂ _over_ (omega arith) (omega arith)
 ⊗-comm x y = ap₂ _over_ (mul-comm (x .num) (y .num)) (mul-comm (x .den) (y .den))
 
 -- document 01's fraction n / d is 255 times the paper's fraction e
-record Is255Times (n d : ℕ) (e : Fraction) : Type 0 where
-  same : n over d ≈ whole 255 ⊗ e
+pub record Is255Times (n d : ℕ) (e : Fraction) : Type 0 where
+  pub same : n over d ≈ whole 255 ⊗ e
 
 -- x × y / z is 255 times the product of x/255 and the ratio of y and z, in either order; and with 2 × z it is half of that
 module _ (x y z : ℕ) (positive : 0 < z) where
@@ -76,7 +76,7 @@ module _ {x n d : ℕ} (fits : AtMostWhite x n d) {e : Fraction} (is255 : Is255T
   rounds-as : near (x * n) d ≡ nearest (whole 255 ⊗ e)
   rounds-as = near-same (x * n) d (255 * e .num) (1 * e .den) (same .0) (same .1) (same .2)
 
-  at-most-one : e .num ≤ e .den
+  pub at-most-one : e .num ≤ e .den
   at-most-one =
       let less = mul-le-mul-right (1 * e .den) (fits .small) in
       let least : d * e .num ≤ d * e .den =
@@ -118,21 +118,21 @@ module _ {s f c : ℕ} (h : MovingSample s f c) where
   abbrev p̂ : Fraction
   p̂ = c over 255
 
-  same-i : Is255Times (c * f) s (f̂ ⊘ l̂ ⊗ p̂)
+  pub same-i : Is255Times (c * f) s (f̂ ⊘ l̂ ⊗ p̂)
   same-i = subst⁻¹ (λ (x : Fraction). Is255Times (c * f) s (x ⊗ p̂)) (ratio-is f s) (ratio-first c f s (h .notBlack))
 
-  same-ii : Is255Times ((255 - c) * (765 - f)) (765 - s) ((whole 3 ⊖ f̂) ⊘ (whole 3 ⊖ l̂) ⊗ (whole 1 ⊖ p̂))
+  pub same-ii : Is255Times ((255 - c) * (765 - f)) (765 - s) ((whole 3 ⊖ f̂) ⊘ (whole 3 ⊖ l̂) ⊗ (whole 1 ⊖ p̂))
   same-ii =
       subst⁻¹ (Is255Times ((255 - c) * (765 - f)) (765 - s))
       (ap₂ _⊗_ (ap₂ _⊘_ (three-minus f) (three-minus s) ∙ ratio-is (765 - f) (765 - s)) (one-minus c))
       (ratio-first (255 - c) (765 - f) (765 - s) (omega arith))
 
-  same-I-i : Is255Times (c * f) s (f̂ ⊗ (p̂ ⊘ l̂))
+  pub same-I-i : Is255Times (c * f) s (f̂ ⊗ (p̂ ⊘ l̂))
   same-I-i =
       subst₂ (λ (n : ℕ) (x : Fraction). Is255Times n s (f̂ ⊗ x)) (mul-comm f c) (sym (ratio-is c s))
       (ratio-last f c s (h .notBlack))
 
-  same-I-ii : Is255Times ((765 - f) * (s - c)) (2 * s) ((whole 3 ⊖ f̂) ⊗ (whole 1 ⊖ p̂ ⊘ l̂) ⊘ whole 2)
+  pub same-I-ii : Is255Times ((765 - f) * (s - c)) (2 * s) ((whole 3 ⊖ f̂) ⊗ (whole 1 ⊖ p̂ ⊘ l̂) ⊘ whole 2)
   same-I-ii =
       subst⁻¹ (λ (x : Fraction). Is255Times ((765 - f) * (s - c)) (2 * s) (x ⊘ whole 2))
       (ap₂ _⊗_ (three-minus f) (ap (λ (x : Fraction). whole 1 ⊖ x) (ratio-is c s) ∙ one-minus-ratio c s))
@@ -145,13 +145,13 @@ module _ {s f c : ℕ} (h : MovingSample s f c) where
   p̃-is : whole 1 ⊖ (whole 1 ⊖ p̂) ⊘ (whole 3 ⊖ l̂) ≡ ratio (765 - s - (255 - c)) (765 - s)
   p̃-is = ap (λ (x : Fraction). whole 1 ⊖ x) q̃-is ∙ one-minus-ratio (255 - c) (765 - s)
 
-  same-III-i : Is255Times (f * (765 - s - (255 - c))) (2 * (765 - s))
+  pub same-III-i : Is255Times (f * (765 - s - (255 - c))) (2 * (765 - s))
       (f̂ ⊗ (whole 1 ⊖ (whole 1 ⊖ p̂) ⊘ (whole 3 ⊖ l̂)) ⊘ whole 2)
   same-III-i =
       subst⁻¹ (λ (x : Fraction). Is255Times (f * (765 - s - (255 - c))) (2 * (765 - s)) (f̂ ⊗ x ⊘ whole 2)) p̃-is
       (ratio-halved f (765 - s - (255 - c)) (765 - s) (omega arith))
 
-  same-III-ii : Is255Times ((765 - f) * (255 - c)) (765 - s)
+  pub same-III-ii : Is255Times ((765 - f) * (255 - c)) (765 - s)
       ((whole 3 ⊖ f̂) ⊗ (whole 1 ⊖ (whole 1 ⊖ (whole 1 ⊖ p̂) ⊘ (whole 3 ⊖ l̂))))
   same-III-ii =
       let twice : 765 - s - (765 - s - (255 - c)) ≡ 255 - c = omega arith in

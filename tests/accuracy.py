@@ -1,12 +1,14 @@
 """The figures of docs/ACCURACY.md are what the program writes and what a search of every move finds.
 
-    python3 tests/accuracy.py          sees that the document has every row of its worked examples, then runs docs/figures/hue.py check
+    python3 tests/accuracy.py          sees that the document has every row of its worked examples and that the claims and proofs that it
+                                       names are there, then runs docs/figures/hue.py check
     python3 tests/accuracy.py print    prints these rows
 
 The skin tone's written pixel is read from what bin/balance writes for samples/portrait.ppm; all else is computed, exactly.
 """
 
 import pathlib
+import re
 import subprocess
 import sys
 from fractions import Fraction
@@ -104,17 +106,38 @@ def rows():
     yield from two_below()
 
 
+NAMED = re.compile(r"\| `(\S+/specs/\S+\.antt)`, `(\S+)` \| `(\S+/proofs/\S+\.antt)`, `(\S+)` \|$")
+
+
+def has(file, line):
+    """Whether a file of crates/ has a line that begins so."""
+    path = pathlib.Path("crates") / file
+    return path.is_file() and re.search(rf"^{line}", path.read_text(encoding="utf-8"), re.M) is not None
+
+
+def not_there(lines):
+    """The claims and proofs that the document names in vain."""
+    named = [found.groups() for line in lines if (found := NAMED.search(line))]
+    if not named:
+        yield "no claim is named"
+    for spec, claim, file, proof in named:
+        if not has(spec, rf"(?:abbrev pub|pub record) {re.escape(claim)} : Type 0"):
+            yield f"{spec} has no claim {claim}"
+        if not has(file, rf"pub {re.escape(proof)} : {re.escape(claim)}$"):
+            yield f"{file} has no proof {proof} of {claim}"
+
+
 def main():
     if sys.argv[1:] == ["print"]:
         print("\n".join(rows()))
         return
     # a table may stand in a list
     lines = [line.strip() for line in DOC.read_text(encoding="utf-8").splitlines()]
-    missing = [row for row in rows() if row not in lines]
-    for row in missing:
-        print(f"{DOC} has no row {row}")
+    faults = [f"{DOC} has no row {row}" for row in rows() if row not in lines] + list(not_there(lines))
+    for fault in faults:
+        print(fault)
     figures = subprocess.run([sys.executable, "docs/figures/hue.py", "check"], check=False).returncode
-    sys.exit(1 if missing or figures else 0)
+    sys.exit(1 if faults or figures else 0)
 
 
 main()

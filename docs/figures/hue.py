@@ -129,7 +129,8 @@ def svg(rows):
         text(LEFT, LOWER - 12, "the worst move, as a part of the bound"),
     ]
     head = '<svg xmlns="http://www.w3.org/2000/svg" viewBox="0 0 760 560" role="img">'
-    return "\n".join([head, STYLE, '<rect width="760" height="560" fill="white"/>', *body, "</svg>"]) + "\n"
+    title = "<title>The bound on hue and the worst hue move, for each written chroma</title>"
+    return "\n".join([head, title, STYLE, '<rect width="760" height="560" fill="white"/>', *body, "</svg>"]) + "\n"
 
 
 def faults(rows):

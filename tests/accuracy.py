@@ -1,8 +1,7 @@
-"""The figures of docs/ACCURACY.md are what the program writes and what a search of every move finds.
+"""The figures of docs/ACCURACY.md are what the program writes and what a search of every move finds, and its claims and proofs are there.
 
-    python3 tests/accuracy.py          sees that the document has every row of its worked examples and that the claims and proofs that it
-                                       names are there, then runs docs/figures/hue.py check
-    python3 tests/accuracy.py print    prints these rows
+    python3 -B tests/accuracy.py          compares the document, and the files of docs/figures/, with them
+    python3 -B tests/accuracy.py print    prints the tables and sentences that the document has to have
 
 The skin tone's written pixel is read from what bin/balance writes for samples/portrait.ppm; all else is computed, exactly.
 """
@@ -15,9 +14,15 @@ from fractions import Fraction
 
 from exact import TARGETS, curve_of, moved, pixels_of
 
+sys.path.insert(0, "docs/figures")
+import hue as figures  # noqa: E402
+
 DOC = pathlib.Path("docs/ACCURACY.md")
+CRATES = pathlib.Path("crates")
 PICTURE = pathlib.Path("samples/portrait.ppm")
+# two pixels of the picture, of one hue
 SKIN = 49, 34, 24
+DARKER = 31, 22, 16
 
 
 def samples(picture):
@@ -30,14 +35,6 @@ def chroma(pixel):
     return max(pixel) - min(pixel)
 
 
-def signed(x):
-    return f"{float(x):+.3f}".replace("-", "−")
-
-
-def numbers(pixel):
-    return "(" + ", ".join(f"{float(c):.3f}" if isinstance(c, Fraction) else str(c) for c in pixel) + ")"
-
-
 def hue(pixel):
     """The hue of a pixel whose greatest sample is red's, and least blue's."""
     r, g, b = pixel
@@ -45,99 +42,204 @@ def hue(pixel):
     return Fraction(60 * (g - b), r - b)
 
 
-def skin_tone():
-    """The worked skin tone, a row to a step: what, the number, how far off it may be and how far it is."""
-    width, source = samples(PICTURE.read_bytes())
-    balanced = subprocess.run(["bin/balance"], input=PICTURE.read_bytes(), stdout=subprocess.PIPE, check=True).stdout
-    place = pixels_of(source).index(SKIN)
-    written = pixels_of(samples(balanced)[1])[place]
+def width(pixel):
+    return Fraction(60, chroma(pixel))
 
-    s, pixels = sum(SKIN), pixels_of(source)
-    at_most = sum(sum(pixel) <= s for pixel in pixels)
-    entry = curve_of(source, 1)[s]
-    # method 2, a sum of at most 255 and a target above 255
-    assert s <= 255 < entry
-    factor = Fraction(765 - entry, 2 * s)
-    exact = tuple(255 - factor * (s - c) for c in SKIN)
-    r, g, b = SKIN
-    r2, g2, b2 = written
 
-    yield f"| source pixel, column {place % width}, row {place // width} | {numbers(SKIN)} | |"
-    yield f"| its sum | {r} + {g} + {b} = {s} | |"
-    yield f"| its chroma | {r} − {b} = {chroma(SKIN)} | |"
-    yield f"| its hue | 60° × ({g} − {b}) / {chroma(SKIN)} = {float(hue(SKIN)):g}° | |"
-    yield f"| pixels of the shot, N | {len(pixels):,} | |"
-    yield f"| of them with a sum of at most {s}, H({s}) | {at_most:,} | |"
-    yield f"| what N × G(k) comes nearest to, 99,488,250 × H({s}) | {TARGETS[765] * at_most:,} | |"
-    for k in entry - 1, entry, entry + 1:
-        off = len(pixels) * TARGETS[k] - TARGETS[765] * at_most
-        yield f"| N × G({k}) | {len(pixels) * TARGETS[k]:,} | {abs(off):,} {'above' if off > 0 else 'below'} |"
-    yield f"| the curve's entry for {s} | {entry} | |"
-    yield f"| factor | (765 − {entry}) / (2 × {s}) = {765 - entry} / {2 * s} = {float(factor):.4f} | |"
-    yield f"| exact samples, 255 − factor × ({s} − c) | {numbers(exact)} | |"
-    offs = ", ".join(signed(c - e) for c, e in zip(written, exact))
-    yield f"| written samples | {numbers(written)} | at most 0.5; here {offs} |"
-    yield f"| written sum | {r2} + {g2} + {b2} = {sum(written)} | at most 1 from {entry}; here {abs(sum(written) - entry)} |"
-    off = abs(chroma(written) - factor * chroma(SKIN))
-    yield (
-        f"| written chroma | {r2} − {b2} = {chroma(written)}, exactly {float(factor * chroma(SKIN)):.3f} "
-        f"| less than 1; here {float(off):.3f} |"
-    )
-    yield (
-        f"| written hue | 60° × ({g2} − {b2}) / {chroma(written)} = {float(hue(written)):.3f}° "
-        f"| less than 60° / {chroma(written)} = {60 / chroma(written):.3f}°; here {float(abs(hue(written) - hue(SKIN))):.3f}° |"
-    )
-    # what mixing the methods would do
-    for method in 1, 2:
-        other = moved(method, SKIN, entry)
-        yield f"| {method} | {numbers(other)} | {chroma(other)} | {float(hue(other)):.3f}° |"
+def places(x, count=3):
+    return f"{float(x):.{count}f}"
+
+
+def signed(x):
+    return f"{float(x):+.3f}".replace("-", "−")
+
+
+def numbers(pixel):
+    return "(" + ", ".join(places(c) if isinstance(c, Fraction) else str(c) for c in pixel) + ")"
+
+
+class Portrait:
+    """The picture, as it is and as bin/balance writes it."""
+
+    def __init__(self):
+        picture = PICTURE.read_bytes()
+        balanced = subprocess.run(["bin/balance"], input=picture, stdout=subprocess.PIPE, check=True).stdout
+        self.columns, self.source = samples(picture)
+        self.pixels, self.balanced = pixels_of(self.source), pixels_of(samples(balanced)[1])
+        self.entry = curve_of(self.source, 1)[sum(SKIN)]
+        self.place = self.pixels.index(SKIN)
+        self.written = self.balanced[self.place]
+
+    def skin_tone(self):
+        """A row to a step: what, the number, how far off it may be and how far it is."""
+        s, entry, written = sum(SKIN), self.entry, self.written
+        at_most, pixels = sum(sum(pixel) <= s for pixel in self.pixels), len(self.pixels)
+        # method 2, a sum of at most 255 and a target above 255
+        assert s <= 255 < entry
+        factor = Fraction(765 - entry, 2 * s)
+        exact = tuple(255 - factor * (s - c) for c in SKIN)
+        r, g, b = SKIN
+        r2, g2, b2 = written
+        yield "| | number | how far off |"
+        yield "|---|---|---|"
+        yield f"| source pixel, column {self.place % self.columns}, row {self.place // self.columns} | {numbers(SKIN)} | |"
+        yield f"| its sum | {r} + {g} + {b} = {s} | |"
+        yield f"| its chroma | {r} − {b} = {chroma(SKIN)} | |"
+        yield f"| its hue | 60° × ({g} − {b}) / {chroma(SKIN)} = {float(hue(SKIN)):g}° | |"
+        yield f"| pixels of the shot, N | {pixels:,} | |"
+        yield f"| of them with a sum of at most {s}, H({s}) | {at_most:,} | |"
+        yield f"| what N × G(k) comes nearest to, {TARGETS[765]:,} × H({s}) | {TARGETS[765] * at_most:,} | |"
+        for k in entry - 1, entry, entry + 1:
+            off = pixels * TARGETS[k] - TARGETS[765] * at_most
+            yield f"| N × G({k}) | {pixels * TARGETS[k]:,} | {abs(off):,} {'above' if off > 0 else 'below'} |"
+        yield f"| the curve's entry for {s} | {entry} | |"
+        yield f"| factor | (765 − {entry}) / (2 × {s}) = {765 - entry} / {2 * s} = {places(factor, 4)} | |"
+        yield f"| exact samples, 255 − factor × ({s} − c) | {numbers(exact)} | |"
+        offs = ", ".join(signed(c - e) for c, e in zip(written, exact))
+        yield f"| written samples | {numbers(written)} | at most 0.5; here {offs} |"
+        yield f"| written sum | {r2} + {g2} + {b2} = {sum(written)} | at most 1 from {entry}; here {abs(sum(written) - entry)} |"
+        off = abs(chroma(written) - factor * chroma(SKIN))
+        yield (
+            f"| written chroma | {r2} − {b2} = {chroma(written)}, where {places(factor * chroma(SKIN))} is exact "
+            f"| less than 1; here {places(off)} |"
+        )
+        yield (
+            f"| written hue | 60° × ({g2} − {b2}) / {chroma(written)} = {places(hue(written))}° "
+            f"| less than 60° / {chroma(written)} = {places(width(written))}°; here {places(abs(hue(written) - hue(SKIN)))}° |"
+        )
+
+    def by_each_method(self):
+        """What mixing the methods would do."""
+        yield "| method | written | chroma | hue | hue moves by less than |"
+        yield "|---|---|---|---|---|"
+        for method in 1, 2:
+            other = moved(method, SKIN, self.entry)
+            yield f"| {method} | {numbers(other)} | {chroma(other)} | {places(hue(other))}° | {places(width(other))}° |"
+
+    def sentences(self):
+        """What the text says of the two skin tones."""
+        other, at = self.balanced[self.pixels.index(DARKER)], self.written
+        apart = abs(hue(at) - hue(other))
+        assert hue(DARKER) == hue(SKIN) and width(at) < apart < width(at) + width(other)
+        yield (
+            f"So a key from {places(hue(SKIN) - width(at), 2)}° to {places(hue(SKIN) + width(at), 2)}° "
+            f"catches every pixel of hue {float(hue(SKIN)):g}° that is written with a chroma of {chroma(at)} or more."
+        )
+        yield (
+            f"{numbers(DARKER)}, of the same {float(hue(SKIN)):g}°, is written as {numbers(other)}, {places(hue(other))}°: {places(apart)}° "
+            f"from the pixel of the table. A key that was sampled there and opened by {places(width(at))}° alone would lose it."
+        )
 
 
 def two_below():
     """Two pixels with one entry, of which the brighter comes out two below the other; by either method."""
+    yield "| source | its sum | entry | written | its sum |"
+    yield "|---|---|---|---|---|"
     for pixel in (1, 2, 3), (1, 1, 5):
         written = moved(1, pixel, 3)
         assert written == moved(2, pixel, 3)
         yield f"| {numbers(pixel)} | {sum(pixel)} | 3 | {numbers(written)} | {sum(written)} |"
 
 
-def rows():
-    yield from skin_tone()
-    yield from two_below()
+def other_sentences():
+    """What the text says beside that."""
+    yield f"{figures.MOVES:,} moves"
+    low, high, at = 18, 30, Fraction(60, 40)
+    yield f"a key from {float(low - at):g}° to {float(high + at):g}° loses none of it"
+    yield f"from {float(low - 2 * at):g}° to {float(high + 2 * at):g}°"
+    yield f"(255, 1, 0) moved to the target 764 by method 1 becomes {numbers(moved(1, (255, 1, 0), 764))}"
+    yield f"(255, 120, 40) moved to the target 760 by method 2 becomes {numbers(moved(2, (255, 120, 40), 760))}"
 
 
-NAMED = re.compile(r"\| `(\S+/specs/\S+\.antt)`, `(\S+)` \| `(\S+/proofs/\S+\.antt)`, `(\S+)` \|$")
+def table_faults(lines, table):
+    """Whether the document has a table, once and whole."""
+    at = [i for i, line in enumerate(lines) if line == table[0]]
+    if len(at) != 1:
+        return [f"{DOC} has not one table {table[0]}"]
+    rest = lines[at[0] :]
+    count = next((i for i, line in enumerate(rest) if not line.startswith("|")), len(rest))
+    missing = [f"{DOC} has no row {row}" for row in table if row not in rest[:count]]
+    return missing or ([] if rest[:count] == table else [f"{DOC}: rows too many, or out of order: {table[0]}"])
+
+
+def row_faults(row):
+    """Whether what the search found is a move, with the part of the bound that it says, below the bound."""
+    written_chroma, method, size, of, *pixel, target = row[:8]
+    written = tuple(row[8:])
+    if size == 0:
+        return []
+    low, mid, high = pixel
+    low2, mid2, high2 = written
+    found = moved(method, tuple(pixel), target) == written and high2 - low2 == written_chroma and of == high - low
+    found = found and size == abs((mid2 - low2) * (high - low) - (mid - low) * (high2 - low2))
+    return [] if found and size < of else [f"the search found no such move, or one not below the bound: {row}"]
+
+
+def figure_faults(rows):
+    """What of docs/figures/ is not as the search found it."""
+    for path, wanted in (figures.CSV, figures.csv(rows)), (figures.SVG, figures.svg(rows)):
+        if not path.is_file() or path.read_bytes() != wanted.encode():
+            yield f"{path.name} is not what the search gives"
+    for row in rows:
+        yield from row_faults(row)
+
+
+PROVED = "| what | claim | proof |"
+NAMED = re.compile(r"\| .* \| `(\S+/specs/\S+\.antt)`, `(\S+)` \| `(\S+/proofs/\S+\.antt)`, `(\S+)` \|")
+CLAIM = re.compile(r"Proved:\s+(?:-- )?proofs/\S+\.antt,\s+(?:-- )?`([^`]+)`")
 
 
 def has(file, line):
-    """Whether a file of crates/ has a line that begins so."""
-    path = pathlib.Path("crates") / file
-    return path.is_file() and re.search(rf"^{line}", path.read_text(encoding="utf-8"), re.M) is not None
+    """Whether a file of crates/ has such a line."""
+    path = CRATES / file
+    return path.is_file() and re.search(rf"^{line}$", path.read_text(encoding="utf-8"), re.M) is not None
 
 
-def not_there(lines):
-    """The claims and proofs that the document names in vain."""
-    named = [found.groups() for line in lines if (found := NAMED.search(line))]
-    if not named:
-        yield "no claim is named"
-    for spec, claim, file, proof in named:
-        if not has(spec, rf"(?:abbrev pub|pub record) {re.escape(claim)} : Type 0"):
+def claim_faults(lines):
+    """What is wrong with the document's table of claims and proofs."""
+    start = lines.index(PROVED) + 2 if PROVED in lines else len(lines)
+    rows = [line for line in lines[start : lines.index("", start)]] if start < len(lines) else []
+    proofs = set()
+    for row in rows:
+        found = NAMED.fullmatch(row)
+        if not found:
+            yield f"{DOC}: a row names no claim and proof: {row}"
+            continue
+        spec, claim, file, proof = found.groups()
+        proofs.add(proof)
+        if not has(spec, rf"(?:abbrev pub|pub record) {re.escape(claim)} : Type 0(?: where)?"):
             yield f"{spec} has no claim {claim}"
-        if not has(file, rf"pub {re.escape(proof)} : {re.escape(claim)}$"):
+        if not has(file, rf"pub {re.escape(proof)} : {re.escape(claim)}"):
             yield f"{file} has no proof {proof} of {claim}"
+    for spec in sorted((CRATES / "key" / "specs").glob("*.antt")):
+        for proof in CLAIM.findall(spec.read_text(encoding="utf-8")):
+            if proof not in proofs:
+                yield f"{DOC} does not name {proof} of {spec}"
+
+
+def example_faults(portrait):
+    """Whether the proved example is the worked skin tone."""
+    text = (CRATES / "key" / "specs" / "Examples.antt").read_text(encoding="utf-8")
+    for line in f"target = {portrait.entry};", "written = rgb {} {} {};".format(*portrait.written):
+        if line not in text:
+            yield f"key/specs/Examples.antt: the skin tone has not {line}"
 
 
 def main():
+    portrait, rows = Portrait(), figures.search()
+    tables = [figures.table(rows), list(portrait.skin_tone()), list(portrait.by_each_method()), list(two_below())]
+    sentences = [*portrait.sentences(), *other_sentences()]
     if sys.argv[1:] == ["print"]:
-        print("\n".join(rows()))
+        print("\n\n".join(["\n".join(table) for table in tables] + sentences))
         return
-    # a table may stand in a list
-    lines = [line.strip() for line in DOC.read_text(encoding="utf-8").splitlines()]
-    faults = [f"{DOC} has no row {row}" for row in rows() if row not in lines] + list(not_there(lines))
-    for fault in faults:
-        print(fault)
-    figures = subprocess.run([sys.executable, "docs/figures/hue.py", "check"], check=False).returncode
-    sys.exit(1 if faults or figures else 0)
+    # a table may stand in a list, and a sentence may run over lines
+    text = DOC.read_text(encoding="utf-8")
+    lines = [line.strip() for line in text.splitlines()] + [""]
+    faults = [fault for table in tables for fault in table_faults(lines, table)]
+    faults += [f"{DOC} does not say: {sentence}" for sentence in sentences if sentence not in " ".join(text.split())]
+    faults += [*figure_faults(rows), *claim_faults(lines), *example_faults(portrait)]
+    print("\n".join(faults) if faults else f"accuracy: {figures.MOVES:,} moves below the bound; document and figures as found")
+    sys.exit(1 if faults else 0)
 
 
 main()

@@ -1,10 +1,10 @@
 """How far hue moves: the bound, and the worst move for each written chroma, from a search of every move.
 
-    python3 docs/figures/hue.py          search, then write hue.csv and hue.svg beside this script (about 10 s)
-    python3 docs/figures/hue.py check    search, and see that both files and the table of docs/ACCURACY.md say what was found
+    python3 docs/figures/hue.py    searches, writes hue.csv and hue.svg beside this script, and prints the table of docs/ACCURACY.md
 
-The search is worst_hue.c, which this script compiles with cc and runs for both methods at once. Nothing else is needed but Python's
-standard library.
+The search is worst_hue.c, which this script compiles with cc, beside the exact arithmetic of tests/host/, and runs for both methods at
+once; it takes some ten seconds. Nothing else is needed but Python's standard library. tests/accuracy.py compares both files with what the
+search gives.
 """
 
 import math
@@ -15,46 +15,57 @@ import tempfile
 from fractions import Fraction
 
 HERE = pathlib.Path(__file__).resolve().parent
-CSV, SVG, DOC = HERE / "hue.csv", HERE / "hue.svg", HERE.parent / "ACCURACY.md"
+CSV, SVG = HERE / "hue.csv", HERE / "hue.svg"
+EXACT = HERE.parent.parent / "tests" / "host"
 
-# every pixel that is not grey, as its samples in order, by 766 targets and two methods
+# every three samples that are not all equal, in order, by 766 targets and two methods
 MOVES = (256 * 257 * 258 // 6 - 256) * 766 * 2
-COLUMNS = "written chroma,part of the bound,of,method,min,mid,max,target,min',mid',max'"
+COLUMNS = "written chroma,method,part of the bound,of,min,mid,max,target,min',mid',max'"
 # the written chromas of the document's table
 TABLE = 5, 10, 20, 40, 60, 80, 120, 200
 
 
 def search():
-    """The worst move for each written chroma from 1 to 255, as rows of COLUMNS."""
+    """The worst move for each written chroma from 1 to 255, method and third of the sums, as rows of COLUMNS."""
     with tempfile.TemporaryDirectory() as room:
         program = pathlib.Path(room) / "worst_hue"
-        subprocess.run(["cc", "-O3", "-o", program, HERE / "worst_hue.c"], check=True)
+        subprocess.run(["cc", "-O3", "-I", EXACT, "-o", program, HERE / "worst_hue.c", EXACT / "exact.c"], check=True)
         runs = [subprocess.Popen([program, method], stdout=subprocess.PIPE, stderr=subprocess.PIPE, text=True) for method in "12"]
         results = [run.communicate() for run in runs]
     if any(run.returncode for run in runs) or sum(int(said) for _, said in results) != MOVES:
         sys.exit("the search did not try every move")
-    by_method = [[[int(x) for x in line.split(",")] for line in rows.splitlines()] for rows, _ in results]
-    # max takes the first of equal parts, method 1's
-    return [max(pair, key=lambda row: Fraction(row[1], row[2])) for pair in zip(*by_method)]
+    return [[int(x) for x in line.split(",")] for rows, _ in results for line in rows.splitlines()]
+
+
+def part(row):
+    """How much of the bound the move uses."""
+    return Fraction(row[2], row[3])
+
+
+def worst(rows):
+    """The worst move for each written chroma; of equal ones the first."""
+    return [max((row for row in rows if row[0] == chroma), key=part) for chroma in range(1, 256)]
+
+
+def bound(chroma):
+    """What hue moves by less than, in degrees."""
+    return Fraction(60, chroma)
 
 
 def degrees(row):
     """How far hue moves there."""
-    chroma, size, of = row[:3]
-    return Fraction(60 * size, of * chroma)
-
-
-def bound(chroma):
-    return Fraction(60, chroma)
+    return part(row) * bound(row[0])
 
 
 def csv(rows):
-    return "\n".join([COLUMNS] + [",".join(map(str, row)) for row in rows]) + "\n"
+    return "\n".join([COLUMNS] + [",".join(map(str, row)) for row in worst(rows)]) + "\n"
 
 
 def table(rows):
-    """The rows of the document's table."""
-    return [f"| {c} | {float(bound(c)):g}° | {float(degrees(rows[c - 1])):.3f}° |" for c in TABLE]
+    """The document's table."""
+    both = worst(rows)
+    head = ["| written chroma | hue moves by less than | worst of all moves |", "|---|---|---|"]
+    return head + [f"| {c} | {float(bound(c)):g}° | {float(degrees(both[c - 1])):.3f}° |" for c in TABLE]
 
 
 def text(x, y, words, more=""):
@@ -87,9 +98,9 @@ def upper(angle):
     return MIDDLE - (MIDDLE - TOP) * math.log(angle / 0.2) / math.log(80 / 0.2)
 
 
-def lower(part):
+def lower(share):
     """Where a part of the bound stands, 90 % to 100 %."""
-    return BOTTOM - (BOTTOM - LOWER) * (part - 0.9) / 0.1
+    return BOTTOM - (BOTTOM - LOWER) * (share - 0.9) / 0.1
 
 
 def axes():
@@ -112,9 +123,9 @@ def axes():
 
 def svg(rows):
     # at 255 no hue moves: there is nothing to draw on a scale of logarithms
-    moving = [row for row in rows if row[1] > 0]
+    moving = [row for row in worst(rows) if part(row) > 0]
     dots = [(across(row[0]), upper(degrees(row))) for row in moving]
-    parts = [(across(row[0]), lower(row[1] / row[2])) for row in moving]
+    parts = [(across(row[0]), lower(float(part(row)))) for row in moving]
     curve = " ".join(f"{across(c):.1f},{upper(bound(c)):.1f}" for c in range(1, 256))
     body = [
         text(LEFT, 24, "How far hue can move in a balanced pixel", 'class="title"'),
@@ -133,31 +144,12 @@ def svg(rows):
     return "\n".join([head, title, STYLE, '<rect width="760" height="560" fill="white"/>', *body, "</svg>"]) + "\n"
 
 
-def faults(rows):
-    """What is not as the search found it."""
-    for path, wanted in (CSV, csv(rows)), (SVG, svg(rows)):
-        if not path.is_file() or path.read_text(encoding="utf-8") != wanted:
-            yield f"{path.name} is not what the search gives"
-    lines = DOC.read_text(encoding="utf-8").splitlines()
-    for row in table(rows):
-        if row not in lines:
-            yield f"{DOC.name} has no row {row}"
-    for row in rows:
-        if not degrees(row) < bound(row[0]):
-            yield f"at a written chroma of {row[0]} hue moves by as much as the bound"
-
-
 def main():
     rows = search()
-    if sys.argv[1:] == ["check"]:
-        found = list(faults(rows))
-        print("\n".join(found) if found else f"hue: {MOVES:,} moves, each less than the bound; picture and table as found")
-        sys.exit(1 if found else 0)
-    if sys.argv[1:]:
-        sys.exit(__doc__)
     CSV.write_text(csv(rows), encoding="utf-8")
     SVG.write_text(svg(rows), encoding="utf-8")
     print("\n".join(table(rows)))
 
 
-main()
+if __name__ == "__main__":
+    main()

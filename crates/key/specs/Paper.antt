@@ -1,4 +1,4 @@
--- The paper's exact pixel has the hue of the pixel going in: rounding alone turns it.
+-- The paper's exact pixel has the hue of the pixel going in, where the factor is not 0: rounding alone turns it.
 use Prim.Native.Nat.{ℕ, _≤_}
 use Rattle.rounding.specs.Fraction.{whole, _⊕_, _⊗_, _≈_}
 use Rattle.pixel.specs.Accuracy.{factor}

@@ -1,5 +1,5 @@
 -- The widths of a key. A key picks pixels by ranges of hue, chroma and intensity; a width is how far such a range has to be opened, since
--- the written pixel lies so far from the pixel going in (hue), or from what the paper has for it (chroma, intensity, samples).
+-- the written pixel may lie that far from the pixel going in (hue), or from what the paper has for it (chroma, intensity, samples).
 use mathlib.Core.Path.{_≡_}
 use Prim.Native.Nat.{ℕ, _+_, _≤_}
 use Rattle.rounding.specs.Fraction.{whole, _⊗_, Within}

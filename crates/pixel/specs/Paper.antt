@@ -50,7 +50,7 @@ paperBy YangLee = paper₂
 unfoldable pub paper : Method → Fraction → Fraction → Fraction → Exact
 paper m l f p = cond (l ≼ whole 0) (is (whole 0)) (cond (whole 3 ≼ l) (is (whole 1)) (paperBy m l f p))
 
--- The paper's sample for a channel of the pixel p and the target f: l = s/255, f(l) = f/255 and p = c/255.
+-- The paper's new sample for a channel of a pixel that is moved to the target f: at l = s/255, f(l) = f/255 and, for its p, c/255.
 abbrev pub exactSample : Method → Pixel → ℕ → Channel → Exact
 exactSample m p f a = paper m (intensity p over 255) (f over 255) (sample p a over 255)
 

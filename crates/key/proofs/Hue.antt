@@ -10,7 +10,7 @@ use Rattle.tables.proofs.Cases.{either}
 use Rattle.pixel.specs.Move.{Channel, Channel.red, Channel.green, Channel.blue, sample}
 use Rattle.pixel.specs.declared.Pixel.{Pixel}
 use Rattle.key.proofs.Chroma.{not-above, not-below, spread-is, grey-stays}
-use Rattle.key.specs.Hue.{greatest, chroma, sixths, hue, hueBound, HuesAreAngles, AnglesWithin, KeepsHue, MiddleKept, KeepsMiddle, KeepsDifferences, DifferencesKeepHue}
+use Rattle.key.specs.Hue.{greatest, chroma, sixths, hue, hueBound, HuesAreAngles, KeepsAngle, AnglesWithin, MiddleKept, KeepsMiddle, KeepsDifferences, DifferencesKeepHue}
 
 -- The law, over samples and fractions. Two neighbouring differences m and n come out as u and v, each kept by the factor num / den to less
 -- than w parts of a step; then u / m and v / n cannot part by more than that.
@@ -266,11 +266,11 @@ module _ (p q : Pixel) (some : 0 < chroma p) (some' : 0 < chroma q) (middle : Ke
       let kept = middle red green blue (omega arith) (omega arith) rb in
       inl (same-sixth (before-steady 4 (omega arith)) kept (omega arith) at (to-blue q some' (kept .lower) (kept .upper))))))
 
-keeps-hue : (k : Fraction) (p q : Pixel) → KeepsDifferences k p q → KeepsHue p q
-keeps-hue k p q d some' =
+keeps-angle : (k : Fraction) (p q : Pixel) → KeepsDifferences k p q → KeepsAngle p q
+keeps-angle k p q d some' =
     either (chroma p) 0
     (λ none. absurd (omega (arith, grey-stays k p q d (omega arith))))
     (λ some. angles-within p q some some' (keeps-middle k p q d))
 
 pub differences-keep-hue : DifferencesKeepHue
-differences-keep-hue = record { hue = keeps-hue; middle = keeps-middle }
+differences-keep-hue k p q d = record { angle = keeps-angle k p q d; middle = keeps-middle k p q d }

@@ -8,12 +8,12 @@ use Rattle.rounding.specs.Fraction.{Fraction, whole, _over_, _⊕_, _⊗_, _≈
 use Rattle.tables.proofs.Cases.{either}
 use Rattle.pixel.specs.Accuracy.{factor₁, factor₂, factorBy, factor}
 use Rattle.pixel.specs.Inner.{AtMostWhite, MovingSample}
-use Rattle.pixel.specs.Move.{Channel, Channel.red, sample, InRange, intensity}
-use Rattle.pixel.specs.Paper.{Exact, Exact.is, Exact.oneMinus, paper₁, paper₂, paperI, paperIII, paperBy, paper, codeValue, exactSample}
+use Rattle.pixel.specs.Move.{Channel, sample, intensity}
+use Rattle.pixel.specs.Paper.{Exact, Exact.is, Exact.oneMinus, paper₁, paper₂, paperI, paperIII, paperBy, paper, codeValue}
 use Rattle.pixel.specs.declared.Method.{Method}
 use Rattle.pixel.specs.declared.Method.the-variants.{NaikMurthy, YangLee}
 use Rattle.pixel.specs.declared.Pixel.{Pixel}
-use Rattle.pixel.proofs.Cases.{case-i, case-ii, case-I-i, case-I-ii, case-III-i, case-III-ii}
+use Rattle.pixel.proofs.Cases.{case-ii, case-I-ii, case-III-ii}
 use Rattle.pixel.proofs.Channels.{inside, black-samples, white-samples}
 use Rattle.pixel.proofs.Strips.{intensity-in-range}
 use Rattle.pixel.proofs.Paper.{Is255Times, at-most-one, same-i, same-ii, same-I-i, same-I-ii, same-III-i, same-III-ii}

@@ -52,7 +52,7 @@ module _ (p : Pixel) (f : ℕ) (light : 0 < intensity p) where
 
   kept-rounding-down : KeptRoundingDown p f
   kept-rounding-down = record {
-    hue = differences-keep-hue .hue (f over s) p (roundedDown p f) keeps-differences;
+    hue = differences-keep-hue (f over s) p (roundedDown p f) keeps-differences;
     sumAbove =
         less-step sum f s
         (omega (arith, total, parts, down-above (p .r), down-above (p .g), down-above (p .b)));

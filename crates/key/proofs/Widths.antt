@@ -29,8 +29,7 @@ keeps-widths m f p q accurate half =
     let k = factor m (intensity p) f in
     let d = two-rules accurate in
     record {
-      hueWidth = differences-keep-hue .hue k p q d;
-      middle = differences-keep-hue .middle k p q d;
+      hueWidth = differences-keep-hue k p q d;
       chromaWidth = keeps-chroma k p q d;
       sumAbove = accurate .sumAbove;
       sumBelow = accurate .sumBelow;
@@ -61,7 +60,4 @@ keeps-differences m p f bytes le =
     at-end e = (1 over 1, subst (KeepsDifferences (1 over 1) p) (sym (ends-stay m p f bytes e)) (unmoved p))
 
 pub moves-keep-hue : MovesKeepHue
-moves-keep-hue = record {
-  hue = λ m p f bytes le. let (k, d) = keeps-differences m p f bytes le in differences-keep-hue .hue k p (moved m p f) d;
-  middle = λ m p f bytes le. let (k, d) = keeps-differences m p f bytes le in differences-keep-hue .middle k p (moved m p f) d;
-}
+moves-keep-hue m p f bytes le = let (k, d) = keeps-differences m p f bytes le in differences-keep-hue k p (moved m p f) d

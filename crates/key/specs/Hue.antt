@@ -59,8 +59,8 @@ abbrev pub hueBound : ℕ → Fraction
 hueBound c = 60 over c
 
 -- Where the pixel written, q, is not grey, its hue is less than that from the hue of p.
-abbrev pub KeepsHue : Pixel → Pixel → Type 0
-KeepsHue p q = 0 < chroma q → AnglesWithin (hueBound (chroma q)) (hue p) (hue q)
+abbrev pub KeepsAngle : Pixel → Pixel → Type 0
+KeepsAngle p q = 0 < chroma q → AnglesWithin (hueBound (chroma q)) (hue p) (hue q)
 
 -- More than that, and without an angle: p has in its channels lo, mid and hi the samples min ≤ mid ≤ max, and q, written for it, min', mid'
 -- and max'. The order says in which sixth of the turn a hue is, and the middle sample where in it.
@@ -79,13 +79,17 @@ abbrev pub KeepsMiddle : Pixel → Pixel → Type 0
 KeepsMiddle p q =
     (lo mid hi : Channel) → sample p lo ≤ sample p mid → sample p mid ≤ sample p hi → sample p lo < sample p hi → MiddleKept p q lo mid hi
 
--- What both rest on, whatever made q: two of demand 3's rules, by any factor k.
+-- Hue is kept, said both ways.
+pub record KeepsHue (p q : Pixel) : Type 0 where
+  pub angle : KeepsAngle p q
+  pub middle : KeepsMiddle p q
+
+-- What that rests on, whatever made q: two of demand 3's rules, by any factor k.
 pub record KeepsDifferences (k : Fraction) (p q : Pixel) : Type 0 where
   pub denominator : 0 < k .den
   pub order : (a b : Channel) → sample p a ≤ sample p b → sample q a ≤ sample q b
   pub difference : (a b : Channel) → withinOneStep k (sample p a) (sample p b) (sample q a) (sample q b)
 
 -- Claim: that is enough. Proved: proofs/Hue.antt, `differences-keep-hue`.
-pub record DifferencesKeepHue : Type 0 where
-  pub hue : (k : Fraction) (p q : Pixel) → KeepsDifferences k p q → KeepsHue p q
-  pub middle : (k : Fraction) (p q : Pixel) → KeepsDifferences k p q → KeepsMiddle p q
+abbrev pub DifferencesKeepHue : Type 0
+DifferencesKeepHue = (k : Fraction) (p q : Pixel) → KeepsDifferences k p q → KeepsHue p q

@@ -8,18 +8,16 @@ use Rattle.pixel.specs.Move.{InRange, intensity, moved}
 use Rattle.pixel.specs.Paper.{SamplesWithinHalf}
 use Rattle.pixel.specs.declared.Method.{Method}
 use Rattle.pixel.specs.declared.Pixel.{Pixel}
-use Rattle.key.specs.Hue.{chroma, KeepsHue, KeepsMiddle}
+use Rattle.key.specs.Hue.{chroma, KeepsHue}
 
 -- Claim: hue is kept by both methods, for every pixel and target. Proved: proofs/Widths.antt, `moves-keep-hue`.
-pub record MovesKeepHue : Type 0 where
-  pub hue : (m : Method) (p : Pixel) (f : ℕ) → InRange p → f ≤ 765 → KeepsHue p (moved m p f)
-  pub middle : (m : Method) (p : Pixel) (f : ℕ) → InRange p → f ≤ 765 → KeepsMiddle p (moved m p f)
+abbrev pub MovesKeepHue : Type 0
+MovesKeepHue = (m : Method) (p : Pixel) (f : ℕ) → InRange p → f ≤ 765 → KeepsHue p (moved m p f)
 
 -- For a pixel p that is written as q by the method m, with the entry f for its intensity:
 pub record KeyWidths (m : Method) (f : ℕ) (p q : Pixel) : Type 0 where
-  -- hue moves by less than 60 / chroma degrees, the chroma being the written one; and the same as a place of the middle sample
+  -- hue moves by less than 60 / chroma degrees, the chroma being the written one
   pub hueWidth : KeepsHue p q
-  pub middle : KeepsMiddle p q
   -- the chroma is less than a full step from the factor times the chroma going in
   pub chromaWidth : Within (whole 1) (whole (chroma q)) (factor m (intensity p) f ⊗ whole (chroma p))
   -- the intensity is at most one from the entry

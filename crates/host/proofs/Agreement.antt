@@ -9,9 +9,8 @@ use lib.ListN.{length}
 use Rattle.pixel.specs.Methods.{isMethod}
 use Rattle.pixel.specs.Strip.{isWhole, Bytes}
 use Rattle.curve.specs.Curve.{IsToneCurve}
-use Rattle.shot.specs.Book.{curveOf}
 use Rattle.shot.specs.Inner.{WholeShot}
-use Rattle.shot.specs.Shot.{pixelLimit, opened, measured, fixedWith, coloured}
+use Rattle.shot.specs.Shot.{pixelLimit, opened, measured, fixedWith, curveOf, coloured}
 use Rattle.shot.proofs.OneStrip.{strip-accepted, fix-accepted, is-fixed, curve-is, curve-shape}
 use Rattle.shot.proofs.Passed.{measure-passed, fix-passed}
 use Rattle.host.specs.Agreement.{measureAnswer, fixAnswer, Accepted, colourBy, HostFollowsShot}

@@ -3,4 +3,3 @@ pub mod Passed
 pub mod Outcomes
 pub mod Agreement
 pub mod Accuracy
-pub mod Witness

@@ -9,8 +9,7 @@ use Rattle.pixel.specs.Methods.{isMethod, methodOf}
 use Rattle.pixel.specs.Strip.{isWhole}
 use Rattle.curve.specs.Choices.{isChoice}
 use Rattle.colouring.specs.Colouring.{colouredStrip}
-use Rattle.shot.specs.Book.{curveOf}
-use Rattle.shot.specs.Shot.{pixelLimit}
+use Rattle.shot.specs.Shot.{pixelLimit, curveOf}
 use Rattle.host.specs.CurveBytes.{curveLength, curveBytes, curveEntries, keepsCurveRule}
 
 -- What a call leaves: the number that it hands back, and what the run lent for writing then holds.

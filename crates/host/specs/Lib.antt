@@ -2,4 +2,3 @@ pub mod CurveBytes
 pub mod Host
 pub mod Agreement
 pub mod Accuracy
-pub mod Witness

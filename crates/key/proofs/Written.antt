@@ -19,10 +19,10 @@ use Rattle.pixel.proofs.Paper.{moves-are-within-half}
 use Rattle.pixel.proofs.Strips.{pixel-in-range, intensity-in-range}
 use Rattle.curve.specs.Curve.{EntriesInRange, IsToneCurve}
 use Rattle.colouring.specs.Written.{Written, WrittenExact, WrittenAccurate, pixelsWritten}
-use Rattle.shot.specs.Accuracy.{requested, entries}
-use Rattle.shot.specs.Book.{Call, Call.opening, Call.measuring, Call.fixing, Call.colouring}
-use Rattle.shot.specs.Run.{number, WellFormed}
-use Rattle.shot.proofs.Accuracy.{accuracy, step-brings}
+use Rattle.book.specs.Accuracy.{requested, entries}
+use Rattle.book.specs.Book.{Call, Call.opening, Call.measuring, Call.fixing, Call.colouring}
+use Rattle.book.specs.Run.{number, WellFormed}
+use Rattle.book.proofs.Accuracy.{accuracy, step-brings}
 use Rattle.host.specs.CurveBytes.{curveEntries}
 use Rattle.host.specs.Host.{colourOutcome}
 use Rattle.host.proofs.Accuracy.{host-accurate}

@@ -1,4 +1,4 @@
--- The widths of a key for every pixel written (corollaries of demands 2 and 3, as `shot`, `host` and `still` state them).
+-- The widths of a key for every pixel written (corollaries of demands 2 and 3, as `book`, `host` and `still` state them).
 use mathlib.Core.List.{List}
 use mathlib.Core.Path.{_≡_}
 use Prim.Native.Nat.{ℕ}
@@ -6,9 +6,9 @@ use lib.ListN.{length}
 use Rattle.tables.specs.Table.{_among_}
 use Rattle.pixel.specs.Strip.{Bytes}
 use Rattle.colouring.specs.Written.{Written}
-use Rattle.shot.specs.Accuracy.{written as writtenInStep}
-use Rattle.shot.specs.Book.{Call}
-use Rattle.shot.specs.Run.{Step, trace, Occurs, WellFormed}
+use Rattle.book.specs.Accuracy.{written as writtenInStep}
+use Rattle.book.specs.Book.{Call}
+use Rattle.book.specs.Run.{Step, trace, Occurs, WellFormed}
 use Rattle.host.specs.Accuracy.{written as writtenByHost}
 use Rattle.host.specs.Host.{ColourCall}
 use Rattle.still.specs.Agreement.{callsOf}

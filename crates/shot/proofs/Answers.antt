@@ -5,11 +5,11 @@ use Prim.Native.Nat.{ℕ}
 use borrow.Author.Tests.{eq-eqb, ne-eqb}
 use lib.ListN.{length}
 use Rattle.refusal.specs.Refusal.{firstOf}
+use Rattle.refusal.proofs.Laws.{refused-leaves}
 use Rattle.pixel.specs.Methods.{methodOf}
 use Rattle.colouring.specs.Colouring.{colouredStrip}
 use Rattle.shot.specs.Shot.{answered, ColourRequest, Outcome, colourChecks, carriedOut, coloured}
 use Rattle.shot.specs.declared.Shot.{Shot}
-use Rattle.shot.proofs.Pixels.{carried-untouched}
 
 -- The answer of a call that changes the shot where it is accepted.
 pub answer-refused : (n m : ℕ) (x y : Shot) → n ≡ m → (n ≡ 0 → ⊥) → record { shot = x; number = n } ≡ answered m y x
@@ -17,6 +17,10 @@ answer-refused n m x y e refused = rw (ne-eqb m 0 (λ z. refused (e ∙ z)), e)
 
 pub answer-accepted : (n m : ℕ) (x y z : Shot) → n ≡ m → n ≡ 0 → z ≡ y → record { shot = z; number = n } ≡ answered m y x
 answer-accepted n m x y z e zero same = rw (eq-eqb m 0 (sym e ∙ zero), e, same)
+
+-- A colouring that is refused, whatever checks gave its number, leaves every byte.
+pub carried-untouched : (number : ℕ) (x : Shot) (q : ColourRequest) → (number ≡ 0 → ⊥) → carriedOut number x q .bytes ≡ q .destination
+carried-untouched number x q = refused-leaves number (colouredStrip (methodOf (q .method)) (x .curve) (q .source)) (q .destination)
 
 -- A colouring with its checks' number.
 module _ (x : Shot) (q : ColourRequest) (n : ℕ)

@@ -1,6 +1,6 @@
 -- Cumulative histograms of pixels.
 use mathlib.Core.Path.{_≡_, refl, sym}
-use mathlib.Core.List.{List, [], _∷_, _++_, append-assoc, append-nil, List·Memᴰ·head, List·Memᴰ·tail}
+use mathlib.Core.List.{List, [], _∷_, List·Memᴰ·head, List·Memᴰ·tail}
 use Prim.Native.Nat.{ℕ, zero, suc, _+_, _≤_, _<_}
 use native.Mathlib.Nat.{le-of-eq}
 use native.Mathlib.Omega.{arith}
@@ -10,10 +10,8 @@ use lib.ListN.{length}
 use Rattle.tables.specs.Table.{at, _among_}
 use Rattle.tables.proofs.Cases.{either}
 use Rattle.pixel.specs.Move.{intensity}
-use Rattle.pixel.specs.Strip.{pixelsOf}
 use Rattle.pixel.specs.declared.Pixel.{Pixel}
 use Rattle.curve.specs.Histogram.{sumOfFirst, cumulative, IsCumulative}
-use Rattle.shot.specs.Book.{pixelsIn}
 use Rattle.measuring.specs.Histogram.{countOf, countUpTo}
 use Rattle.measuring.proofs.Counts.{one, count-mono, count-split}
 
@@ -71,8 +69,3 @@ up-to-last (p ∷ ps) all =
 pub pixels-cumulative : (ps : List Pixel) → Counted ps → IsCumulative (length ps) (countUpTo ps)
 pixels-cumulative ps all =
     record { rises = λ s t h _. count-mono (λ i. leb i s) (λ i. leb i t) (up-to-rises s t h) ps; last = up-to-last ps all }
-
--- a strip that joins those held brings its pixels last
-pub pixelsIn-joined : (strips : List (List ℕ)) (strip : List ℕ) → pixelsIn (strips ++ (strip ∷ [])) ≡ pixelsIn strips ++ pixelsOf strip
-pixelsIn-joined [] strip = simp append-nil
-pixelsIn-joined (first ∷ strips) strip = simp (pixelsIn-joined strips strip, append-assoc)

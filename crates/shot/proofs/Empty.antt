@@ -18,7 +18,7 @@ use Rattle.measuring.specs.Histogram.{withPixels}
 use Rattle.shot.specs.Shot.{pixelLimit, withStrip, measureChecks, measured, coloured}
 use Rattle.shot.specs.declared.Shot.{Shot}
 use Rattle.shot.proofs.Answers.{answer-accepted}
-use Rattle.shot.proofs.Sound.{reachable-sound}
+use Rattle.shot.proofs.Holds.{reachable-holds}
 
 -- no pixels added leave the counts as they are
 no-pixels : (counts : List ℕ) → length counts ≡ 766 → withPixels counts [] ≡ counts
@@ -33,7 +33,7 @@ with-none x size =
 empty-measured : (x : Shot) → Reachable x → x .fixed ≡ false → measured x [] ≡ record { shot = x; number = 0 }
 unfolding measured
 empty-measured x r unfixed =
-    let (b, h) = reachable-sound r in
+    let (ps, h) = reachable-holds r in
     let accepted : 0 ≡ firstOf (measureChecks (x .fixed) (x .pixels) 0) =
     sym (simp (unfixed, le-ltb pixelLimit (x .pixels + 0 / 3) (omega (arith, h .limit)))) in
     sym (answer-accepted 0 _ x (withStrip x []) x accepted refl (sym (with-none x (h .size))))

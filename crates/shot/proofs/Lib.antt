@@ -1,11 +1,7 @@
 pub mod Counts
 pub mod Passed
-pub mod Sound
-pub mod Steps
-pub mod Pixels
+pub mod Holds
 pub mod Answers
 pub mod Empty
 pub mod Premise
-pub mod Accuracy
-pub mod Witness
 pub mod OneStrip

@@ -1,23 +1,22 @@
 -- A shot that is opened, measured by one strip and fixed.
-use mathlib.Core.Path.{_≡_, refl, ap, subst, _∙_}
-use mathlib.Core.Bool.{true}
+use mathlib.Core.Path.{_≡_, refl, sym, ap, subst, _∙_}
+use mathlib.Core.Bool.{true, false}
 use mathlib.Core.List.{List, [], _∷_, append-nil}
-use mathlib.Core.Option.{none}
-use Prim.Native.Nat.{ℕ, _+_, _<_}
+use Prim.Native.Nat.{ℕ, _+_, _/_, _<_}
 use native.Mathlib.Omega.{arith}
 use borrow.Author.Tests.{le-ltb, eq-eqb, ne-eqb}
 use lib.ListN.{length}
 use Rattle.pixel.specs.Methods.{isMethod, methodOf}
 use Rattle.pixel.specs.Strip.{isWhole, pixelsOf, Bytes}
-use Rattle.pixel.proofs.Strips.{whole-means, length-pixels}
+use Rattle.pixel.proofs.Strips.{whole-means}
 use Rattle.curve.specs.Curve.{IsToneCurve}
 use Rattle.colouring.specs.Colouring.{colouredStrip}
-use Rattle.shot.specs.Book.{Call.measuring, Call.fixing, Book, emptyBook, pixelsIn, curveOf, expectedAnswer, entered}
 use Rattle.shot.specs.Inner.{WholeShot}
-use Rattle.shot.specs.Shot.{pixelLimit, opened, measured, fixedWith, ColourRequest, coloured}
+use Rattle.shot.specs.Shot.{pixelLimit, opened, withStrip, measured, withCurve, fixedWith, pixelsIn, curveOf, ColourRequest, coloured}
 use Rattle.shot.specs.declared.Answer.{Answer}
 use Rattle.shot.specs.declared.Shot.{Shot}
-use Rattle.shot.proofs.Sound.{Sound, sound-opened, answers-agree, sound-step}
+use Rattle.shot.proofs.Holds.{Holds, holds-opened, holds-strip, curve-of-strips, holds-curve}
+use Rattle.shot.proofs.Passed.{measure-passed}
 
 -- for callers: what fixing hands back, where the calls were made one after the other
 pub in-turn : (strip : List ℕ) (choice : ℕ) (o : Shot) (a b : Answer) → o ≡ opened → a ≡ measured o strip → b ≡ fixedWith (a .shot) choice
@@ -34,43 +33,51 @@ module _ (strip : List ℕ) (bytes : Bytes strip) (choice : ℕ) (ok : WholeShot
   fixing-it = fixedWith (measuring-it .shot) choice
 
   -- measuring accepts the strip
-  strip-expected : expectedAnswer emptyBook (measuring strip) ≡ 0
-  strip-expected =
-      rw (ok .whole, le-ltb pixelLimit (0 + length (pixelsOf strip)) (omega (arith, length-pixels strip, ok .limit))) refl
-
   pub strip-accepted : measuring-it .number ≡ 0
-  strip-accepted = answers-agree (sound-opened .represents) (measuring strip) ∙ strip-expected
+  unfolding measured opened
+  strip-accepted = rw (ok .whole, le-ltb pixelLimit (0 + length strip / 3) (omega (arith, ok .limit))) refl
 
-  -- the book that then holds it
-  abbrev book : Book
-  book = record { strips = strip ∷ []; curve = none }
+  -- and hands back a shot that holds its pixels
+  measured-is : measuring-it .shot ≡ withStrip opened strip
+  unfolding measured
+  measured-is = simp (eq-eqb (measuring-it .number) 0 strip-accepted)
 
-  measured-sound : Sound (measuring-it .shot) book
-  measured-sound =
-      subst (Sound (measuring-it .shot)) (simp (eq-eqb _ 0 strip-expected)) (sound-step sound-opened (measuring strip) bytes)
+  held : Holds (withStrip opened strip) (pixelsIn (strip ∷ []))
+  unfolding measured opened
+  held =
+      subst (Holds (withStrip opened strip)) (sym (append-nil (pixelsOf strip)))
+      (holds-strip holds-opened strip bytes (measure-passed false 0 (length strip) strip-accepted))
 
-  -- fixing accepts the shot
-  some-pixels : 0 < length (pixelsIn (strip ∷ []))
-  some-pixels = simp append-nil (omega (arith, length-pixels strip, whole-means (length strip) (ok .whole), ok .some))
+  -- fixing accepts that
+  some-pixels : 0 < withStrip opened strip .pixels
+  unfolding opened
+  some-pixels = omega (arith, whole-means (length strip) (ok .whole), ok .some)
 
-  fix-expected : expectedAnswer book (fixing choice) ≡ 0
-  fix-expected = rw (ok .known, ne-eqb (length (pixelsIn (strip ∷ []))) 0 (λ e. omega (arith, some-pixels))) refl
+  fix-accepts : fixedWith (withStrip opened strip) choice .number ≡ 0
+  unfolding fixedWith opened
+  fix-accepts = rw (ok .known, ne-eqb (withStrip opened strip .pixels) 0 (λ e. omega (arith, some-pixels))) refl
 
   pub fix-accepted : fixing-it .number ≡ 0
-  fix-accepted = answers-agree (measured-sound .represents) (fixing choice) ∙ fix-expected
+  fix-accepted = ap (λ (x : Shot). fixedWith x choice .number) measured-is ∙ fix-accepts
 
-  fixed-sound : Sound (fixing-it .shot) (entered book (fixing choice))
-  fixed-sound = subst (Sound (fixing-it .shot)) (simp (eq-eqb _ 0 fix-expected)) (sound-step measured-sound (fixing choice) tt)
+  fixed-is : fixing-it .shot ≡ withCurve (withStrip opened strip) choice
+  unfolding fixedWith
+  fixed-is =
+      ap (λ (x : Shot). fixedWith x choice .shot) measured-is
+      ∙ simp (eq-eqb (fixedWith (withStrip opened strip) choice .number) 0 fix-accepts)
 
   -- the shot is then fixed, by the strip's curve
   pub is-fixed : fixing-it .shot .fixed ≡ true
-  is-fixed = fixed-sound .represents .fixed
+  is-fixed = ap (λ (x : Shot). x .fixed) fixed-is
+
+  made : withCurve (withStrip opened strip) choice .curve ≡ curveOf choice (strip ∷ [])
+  made = curve-of-strips (strip ∷ []) held choice
 
   pub curve-is : fixing-it .shot .curve ≡ curveOf choice (strip ∷ [])
-  curve-is = fixed-sound .represents .curve _ refl
+  curve-is = ap (λ (x : Shot). x .curve) fixed-is ∙ made
 
   pub curve-shape : IsToneCurve (curveOf choice (strip ∷ []))
-  curve-shape = fixed-sound .curve _ refl
+  curve-shape = subst IsToneCurve made (holds-curve held choice some-pixels .curve refl)
 
   -- colouring from it accepts every fitting request, and writes by that curve
   pub colour-accepted : (q : ColourRequest) → isMethod (q .method) ≡ true → isWhole (length (q .source)) ≡ true

@@ -2,7 +2,6 @@
 use mathlib.Core.Path.{_≡_, sym, _∙_, subst}
 use mathlib.Core.Bool.{true}
 use mathlib.Core.List.{List}
-use mathlib.Core.Option.{some}
 use Prim.Native.Nat.{ℕ, _≤_, _<_}
 use native.Mathlib.Omega.{arith}
 use lib.Dec.{eqb}
@@ -12,51 +11,44 @@ use Rattle.measuring.specs.Inner.{CountsFit}
 use Rattle.measuring.proofs.Counts.{count-le}
 use Rattle.curve.specs.Inner.{HistogramOf}
 use Rattle.curve.specs.Curve.{EntriesInRange}
-use Rattle.shot.specs.Book.{pixelsIn}
 use Rattle.shot.specs.Reachable.{Reachable, Reachable.byOpening, Reachable.byMeasuring, Reachable.byFixing}
 use Rattle.shot.specs.Shot.{pixelLimit, opened, measured, fixedWith, ColourRequest, Outcome, coloured}
 use Rattle.shot.specs.declared.Shot.{Shot}
 use Rattle.shot.specs.declared.Answer.{Answer}
 use Rattle.shot.proofs.Counts.{cumulative-counts, pixels-cumulative}
+use Rattle.shot.proofs.Holds.{reachable-holds}
 use Rattle.shot.proofs.Passed.{Measurable}
-use Rattle.shot.proofs.Pixels.{has-some}
-use Rattle.shot.proofs.Sound.{reachable-sound}
 
 module _ {x : Shot} (r : Reachable x) where
   -- a shot's pixels are within the limit
   pub within-limit : x .pixels ≤ pixelLimit
-  within-limit = reachable-sound r .1 .limit
+  within-limit = reachable-holds r .1 .limit
 
   -- the counts can take an accepted strip
   pub counts-fit : (strip : List ℕ) → Measurable (x .fixed) (x .pixels) (length strip) → CountsFit (x .counts) strip
   counts-fit strip ok =
-      let (b, h) = reachable-sound r in
-      let held = pixelsIn (b .strips) in
+      let (ps, h) = reachable-holds r in
       record {
         whole = ok .whole;
-        fit = λ s l. omega (arith, h .represents .counts s l, count-le (λ i. eqb i s) held, h .represents .pixels, ok .room);
+        fit = λ s l. omega (arith, h .counts s l, count-le (λ i. eqb i s) ps, h .pixels, ok .room);
       }
 
   -- the counts of a shot with pixels are their histogram
   pub histogram-of : 0 < x .pixels → HistogramOf (x .pixels) (x .counts)
   histogram-of positive =
-      let (b, h) = reachable-sound r in
-      let held = pixelsIn (b .strips) in
+      let (ps, h) = reachable-holds r in
       record {
         all =
-            cumulative-counts (x .counts) held (h .represents .counts) 765 (omega arith)
-            ∙ pixels-cumulative held (h .counted) .last
-            ∙ sym (h .represents .pixels);
+            cumulative-counts (x .counts) ps (h .counts) 765 (omega arith)
+            ∙ pixels-cumulative ps (h .counted) .last
+            ∙ sym (h .pixels);
         some = positive;
         most = omega (arith, h .limit);
       }
 
   -- a fixed shot's curve has no entry above 765
   pub entries-in-range : x .fixed ≡ true → EntriesInRange (x .curve)
-  entries-in-range fixed =
-      let (b, h) = reachable-sound r in
-      let (curve, is) = has-some (b .curve) (sym (h .represents .fixed) ∙ fixed) in
-      subst EntriesInRange (sym (h .represents .curve curve is)) (h .curve curve is .range)
+  entries-in-range fixed = reachable-holds r .1 .curve fixed .range
 
 -- For callers: a shot that a call handed back meets the next call's premise.
 pub from-open : {y : Shot} → y ≡ opened → Reachable y

@@ -4,10 +4,9 @@ ghost use mathlib.Core.List.{[], _∷_};
 ghost use Prim.Native.Nat.{_≤_};
 ghost use lib.ListN.{length};
 ghost use Rattle.refusal.specs.Refusal.{firstOf};
-ghost use Rattle.shot.specs.Book.{curveOf};
 ghost use Rattle.shot.specs.Inner.{WholeShot};
 ghost use Rattle.shot.specs.Reachable.{Reachable};
-ghost use Rattle.shot.specs.Shot.{pixelLimit, opened, measureRefusals, measureChecks, measured, fixRefusals, fixChecks, fixedWith, colourRefusals, colourChecks, coloured};
+ghost use Rattle.shot.specs.Shot.{pixelLimit, opened, measureRefusals, measureChecks, measured, fixRefusals, fixChecks, fixedWith, curveOf, colourRefusals, colourChecks, coloured};
 
 // At most so many pixels to a shot.
 pub const PIXEL_LIMIT: usize = 16777216;

@@ -8,11 +8,11 @@ use lib.ListN.{length}
 use lib.Seq.{getD-drop}
 use Rattle.tables.specs.Table.{_among_}
 use Rattle.pixel.specs.Strip.{Bytes}
-use Rattle.shot.specs.Book.{Call, Call.measuring, Call.fixing, Call.colouring}
+use Rattle.book.specs.Book.{Call, Call.measuring, Call.fixing, Call.colouring}
 use Rattle.shot.specs.Inner.{WholeShot}
-use Rattle.shot.specs.Run.{trace, number, WellFormed}
+use Rattle.book.specs.Run.{trace, number, WellFormed}
 use Rattle.shot.specs.Shot.{opened, measured, fixedWith, ColourRequest, Outcome, coloured}
-use Rattle.shot.proofs.Accuracy.{accuracy}
+use Rattle.book.proofs.Accuracy.{accuracy}
 use Rattle.shot.proofs.OneStrip.{strip-accepted, fix-accepted, colour-accepted}
 use Rattle.netpbm.specs.Header.{headerOf, valuesOf, headerText}
 use Rattle.netpbm.specs.declared.Header.{Header}

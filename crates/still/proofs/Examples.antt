@@ -8,7 +8,7 @@ use Rattle.pixel.specs.Move.{naikMurthy, yangLee, movedSample, moved}
 use Rattle.curve.specs.Curve.{shareOf, wholeOf, cubeEntry, withEnds, entry, toneCurve}
 use Rattle.curve.specs.Nearest.{nearer, nearestPlace}
 use Rattle.colouring.specs.Colouring.{colouredStrip}
-use Rattle.shot.specs.Book.{curveOf}
+use Rattle.shot.specs.Shot.{curveOf}
 use Rattle.netpbm.specs.Header.{runLength, fieldAt, headerIn, headerText}
 use Rattle.still.specs.Still.{balanced, picture, refusalLine, fileNumber, answer}
 use Rattle.still.specs.Examples.{examples, ExamplesHold}

@@ -9,7 +9,7 @@ use lib.ListN.{length}
 use Rattle.pixel.specs.Methods.{methodOf}
 use Rattle.pixel.specs.Strip.{isWhole}
 use Rattle.colouring.proofs.Written.{coloured-length}
-use Rattle.shot.specs.Book.{curveOf}
+use Rattle.shot.specs.Shot.{curveOf}
 use Rattle.shot.specs.Inner.{WholeShot}
 use Rattle.netpbm.specs.Header.{areaLimit}
 use Rattle.still.specs.Still.{fileChoice, fileMethod, balanced}

@@ -5,9 +5,9 @@ use mathlib.Core.List.{List, [], _∷_, _++_, map}
 use Prim.Native.Nat.{ℕ}
 use lib.ListN.{length}
 use Rattle.pixel.specs.Strip.{Bytes}
-use Rattle.shot.specs.Accuracy.{Accurate}
-use Rattle.shot.specs.Book.{Call, Call.measuring, Call.fixing, Call.colouring}
-use Rattle.shot.specs.Run.{Step, trace, number}
+use Rattle.book.specs.Accuracy.{Accurate}
+use Rattle.book.specs.Book.{Call, Call.measuring, Call.fixing, Call.colouring}
+use Rattle.book.specs.Run.{Step, trace, number}
 use Rattle.netpbm.specs.Header.{headerText}
 use Rattle.still.specs.Still.{fileChoice, fileMethod, fileHeader, fileSamples, answer, Legal}
 

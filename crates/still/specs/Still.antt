@@ -10,7 +10,7 @@ use Rattle.text.specs.Decimal.{decimal}
 use Rattle.text.specs.Text.{ascii, writtenAt}
 use Rattle.pixel.specs.Methods.{methodOf}
 use Rattle.colouring.specs.Colouring.{colouredStrip}
-use Rattle.shot.specs.Book.{curveOf}
+use Rattle.shot.specs.Shot.{curveOf}
 use Rattle.netpbm.specs.Header.{areaLimit, headerOf, numberOf, valuesOf, headerText, writtenLimit}
 use Rattle.netpbm.specs.declared.Header.{Header}
 use Rattle.netpbm.specs.declared.Reading.{Reading}

@@ -9,15 +9,15 @@ use lib.ListN.{length}
 use Rattle.tables.specs.Table.{_among_}
 use Rattle.colouring.specs.Written.{Written, colouredPixels, AtMostTwoBelow}
 use Rattle.colouring.proofs.Written.{coloured-pixels-are-exact, coloured-pixels-are-accurate, one-curve-keeps-order}
-use Rattle.shot.specs.Accuracy.{requested, writtenFor, written, StepAccurate, CallsAreAccurate}
-use Rattle.shot.specs.Book.{Call, Call.opening, Call.measuring, Call.fixing, Call.colouring, Book}
 use Rattle.shot.specs.Reachable.{Reachable, Reachable.byOpening, Reachable.byMeasuring, Reachable.byFixing}
-use Rattle.shot.specs.Run.{step, Step, number, traceFrom, trace, Occurs, WellFormed}
 use Rattle.shot.specs.Shot.{Outcome, coloured}
 use Rattle.shot.specs.declared.Shot.{Shot}
-use Rattle.shot.proofs.Pixels.{step-size, step-untouched, ByBook, step-written}
-use Rattle.shot.proofs.Sound.{Sound, some-same, sound-opened, answers-agree, sound-step}
-use Rattle.shot.proofs.Steps.{Past, past-start, past-more}
+use Rattle.book.specs.Accuracy.{requested, writtenFor, written, StepAccurate, CallsAreAccurate}
+use Rattle.book.specs.Book.{Call, Call.opening, Call.measuring, Call.fixing, Call.colouring, Book}
+use Rattle.book.specs.Run.{step, Step, number, traceFrom, trace, Occurs, WellFormed}
+use Rattle.book.proofs.Pixels.{step-size, step-untouched, ByBook, step-written}
+use Rattle.book.proofs.Sound.{Sound, represents, shape, some-same, sound-opened, answers-agree, sound-step}
+use Rattle.book.proofs.Steps.{Past, past-start, past-more}
 
 -- what stands first in equal lists, and what follows it
 cons-head : {A : Type 0} {a b : A} {l k : List A} → a ∷ l ≡ b ∷ k → a ≡ b
@@ -66,7 +66,7 @@ all-good (c ∷ cs) ok {n} {x} {b} {past} r h p (u ∷ before) t o =
     let s : Step = record { call = c; openings = n; shot = x; book = b; outcome = step x c } in
     let now = ok c (List·Memᴰ·head refl) in
     let others = all-good cs (λ d m. ok d (List·Memᴰ·tail m)) (reachable-step r c now) (sound-step h c now)
-    (past-more p s refl refl (answers-agree (h .represents) c)) before t (rest o) in
+    (past-more p s refl refl (answers-agree (represents h) c)) before t (rest o) in
     subst (λ (l : List Step). Good l t) (append-assoc past (s ∷ []) before ∙ ap (λ (v : Step). past ++ (v ∷ before)) (cons-head (o .split))) others
 
 -- two steps of one list: the same, or one stands before the other
@@ -113,11 +113,11 @@ step-accurate : (before : List Step) (t : Step) → Good before t → StepAccura
 step-accurate before t g =
     record {
       premise = g .reachable;
-      represents = g .sound .represents;
+      represents = represents (g .sound);
       strips = g .past .strips;
-      answer = answered ∙ answers-agree (g .sound .represents) (t .call);
+      answer = answered ∙ answers-agree (represents (g .sound)) (t .call);
       curve = g .past .fixed;
-      shape = g .sound .curve;
+      shape = shape (g .sound);
       size = ap (λ (o : Outcome). length (o .bytes)) (g .did) ∙ step-size (t .shot) (t .call);
       untouched =
           λ refused.

@@ -10,13 +10,13 @@ use lib.ListN.{length}
 use Rattle.tables.specs.Table.{at, _among_}
 use Rattle.pixel.specs.Methods.{methodOf}
 use Rattle.curve.specs.Curve.{IsToneCurve}
-use Rattle.colouring.specs.Written.{Written, WrittenExact, WrittenAccurate, pixelsWritten, AtMostTwoBelow}
-use Rattle.shot.specs.Book.{Call, Call.opening, Call.measuring, Call.fixing, Call.colouring, Book, pixelsIn, curveOf, hasCurve, expectedAnswer}
 use Rattle.measuring.specs.Histogram.{countOf}
+use Rattle.colouring.specs.Written.{Written, WrittenExact, WrittenAccurate, pixelsWritten, AtMostTwoBelow}
 use Rattle.shot.specs.Reachable.{Reachable}
-use Rattle.shot.specs.Run.{Step, number, trace, Occurs, WellFormed}
-use Rattle.shot.specs.Shot.{ColourRequest}
+use Rattle.shot.specs.Shot.{ColourRequest, pixelsIn, curveOf}
 use Rattle.shot.specs.declared.Shot.{Shot}
+use Rattle.book.specs.Book.{Call, Call.opening, Call.measuring, Call.fixing, Call.colouring, Book, hasCurve, expectedAnswer}
+use Rattle.book.specs.Run.{Step, number, trace, Occurs, WellFormed}
 
 -- What the shot keeps is what the book holds.
 pub record Represents (x : Shot) (b : Book) : Type 0 where

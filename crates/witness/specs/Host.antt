@@ -6,10 +6,10 @@ use Prim.Native.Nat.{ℕ}
 use lib.ListN.{length, replicate}
 use Rattle.refusal.specs.Refusal.{firstOf}
 use Rattle.tables.specs.Table.{at}
-use Rattle.shot.specs.Witness.{two, one, both, uneven}
+use Rattle.witness.specs.Strips.{two, one, both, uneven}
 use Rattle.host.specs.Accuracy.{written}
 use Rattle.host.specs.CurveBytes.{curveBytes}
 use Rattle.host.specs.Host.{Outcome, CurveCall, curveChecks, curveOutcome, ColourCall, colourOutcome}
 
 -- A run for a curve, with bytes in it that are no curve.
 unfoldable pub run : List ℕ
@@ -67,7 +67,7 @@ colourCalls =
     ∷ colourCall (curveOutcome (curveCall two 2 run) .bytes) 2 both two
     ∷ []
 
--- Claim: so these calls run. Proved: proofs/Witness.antt, `witness-runs`.
+-- Claim: so these calls run. Proved: proofs/Host.antt, `witness-runs`.
 pub record WitnessRuns : Type 0 where
   pub curveNumbers : map (λ c. curveOutcome c .number) curveCalls ≡ 4 ∷ 10 ∷ 2 ∷ 5 ∷ 0 ∷ 0 ∷ []
   -- 3, which needs more pixels than can be listed here, by the strip's length: the limit, one pixel more, and a byte more than that

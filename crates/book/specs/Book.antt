@@ -9,11 +9,8 @@ use lib.ListN.{length}
 use Rattle.refusal.specs.Refusal.{Check, _refuses_, firstOf}
 use Rattle.pixel.specs.Methods.{isMethod}
 use Rattle.pixel.specs.Strip.{isWhole, pixelsOf}
-use Rattle.pixel.specs.declared.Pixel.{Pixel}
-use Rattle.curve.specs.Choices.{isChoice, choiceOf}
-use Rattle.curve.specs.Curve.{toneCurve}
-use Rattle.measuring.specs.Histogram.{countUpTo}
-use Rattle.shot.specs.Shot.{pixelLimit, ColourRequest}
+use Rattle.curve.specs.Choices.{isChoice}
+use Rattle.shot.specs.Shot.{pixelLimit, ColourRequest, pixelsIn, curveOf}
 
 -- A call, with what it brings besides the shot.
 pub data Call : Type 0 where
@@ -30,15 +27,6 @@ pub record Book : Type 0 where
 -- No strip and no curve.
 abbrev pub emptyBook : Book
 emptyBook = record { strips = []; curve = none }
-
--- All pixels of the strips.
-abbrev pub pixelsIn : List (List ℕ) → List Pixel
-pixelsIn [] = []
-pixelsIn (strip ∷ strips) = pixelsOf strip ++ pixelsIn strips
-
--- The curve of the strips, with N and H counted over all their pixels.
-unfoldable pub curveOf : ℕ → List (List ℕ) → List ℕ
-curveOf choice strips = toneCurve (choiceOf choice) (length (pixelsIn strips)) (countUpTo (pixelsIn strips))
 
 -- Whether there is a curve.
 abbrev pub hasCurve : Option (List ℕ) → Bool

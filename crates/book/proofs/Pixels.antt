@@ -6,7 +6,7 @@ use mathlib.Core.Option.{Option, none, some}
 use Prim.Native.Nat.{ℕ}
 use lib.Dec.{eqb}
 use lib.ListN.{length}
-use Rattle.refusal.proofs.Laws.{refused-leaves, either-leaves}
+use Rattle.refusal.proofs.Laws.{either-leaves}
 use Rattle.tables.specs.Table.{tabulate, _among_}
 use Rattle.pixel.specs.Methods.{methodOf}
 use Rattle.pixel.specs.Strip.{Bytes}
@@ -15,13 +15,14 @@ use Rattle.curve.specs.Curve.{IsToneCurve}
 use Rattle.colouring.specs.Colouring.{colouredStrip}
 use Rattle.colouring.specs.Written.{Written, pixelsWritten, colouredPixels}
 use Rattle.colouring.proofs.Written.{coloured-length, written-accepted}
-use Rattle.shot.specs.Accuracy.{noRequest, requested, entries, writtenFor}
-use Rattle.shot.specs.Book.{Call, Call.opening, Call.measuring, Call.fixing, Call.colouring, Book, hasCurve}
-use Rattle.shot.specs.Run.{step, WellFormed}
 use Rattle.shot.specs.Shot.{measured, fixedWith, ColourRequest, carriedOut, coloured}
 use Rattle.shot.specs.declared.Shot.{Shot}
+use Rattle.shot.proofs.Answers.{carried-untouched}
 use Rattle.shot.proofs.Passed.{Colourable, colour-passed}
-use Rattle.shot.proofs.Sound.{Sound}
+use Rattle.book.specs.Accuracy.{noRequest, requested, entries, writtenFor}
+use Rattle.book.specs.Book.{Call, Call.opening, Call.measuring, Call.fixing, Call.colouring, Book, hasCurve}
+use Rattle.book.specs.Run.{step, WellFormed}
+use Rattle.book.proofs.Sound.{Sound, shape}
 
 -- a colouring that is answered by this number passes its checks where the number is 0
 abbrev Passes : ℕ → Shot → ColourRequest → Type 0
@@ -45,11 +46,7 @@ module _ (number : ℕ) (x : Shot) (q : ColourRequest) where
       (λ e. coloured-length (methodOf (q .method)) (x .curve) (q .source) (ok e .whole) ∙ sym (ok e .same))
       refl
 
-  -- and, if refused, every byte
-  pub carried-untouched : (number ≡ 0 → ⊥) → carriedOut number x q .bytes ≡ q .destination
-  carried-untouched = refused-leaves number coloured-bytes (q .destination)
-
--- the same of each call; a call that is no colouring has no destination
+-- and, if refused, every byte. The same of each call; a call that is no colouring has no destination
 pub step-size : (x : Shot) (c : Call) → length (step x c .bytes) ≡ length (requested c .destination)
 unfolding coloured
 step-size x opening = refl
@@ -75,7 +72,7 @@ pub record ByBook (b : Book) (w : Written) : Type 0 where
   pub member : w among colouredPixels method curve source
 
 -- a fixed shot's book has a curve
-pub has-some : (o : Option (List ℕ)) → hasCurve o ≡ true → (curve : List ℕ) × (o ≡ some curve)
+has-some : (o : Option (List ℕ)) → hasCurve o ≡ true → (curve : List ℕ) × (o ≡ some curve)
 has-some none e = absurd (false≢true e)
 has-some (some curve) e = (curve, refl)
 
@@ -94,17 +91,17 @@ carried-written : (number : ℕ) {x : Shot} {b : Book} → Sound x b → (q : Co
 carried-written number {x} {b} h q ok bytes w m =
     let method = methodOf (q .method) in
     let (accepted, member) = written-accepted number method (entries (b .curve)) (x .curve) (q .source) (q .destination) w m in
-    let (curve, is) = has-some (b .curve) (sym (h .represents .fixed) ∙ ok accepted .isFixed) in
+    let (curve, is) = has-some (b .curve) (sym (h .fixed) ∙ ok accepted .isFixed) in
     record {
       curve = curve;
       isCurve = is;
-      shape = h .curve curve is;
+      shape = shape h curve is;
       method = method;
       source = q .source;
       bytes = bytes;
       member =
           subst (λ (l : List ℕ). w among pixelsWritten method curve (q .source) (colouredStrip method l (q .source)))
-          (h .represents .curve curve is)
+          (h .curve curve is)
           (subst (λ (l : List ℕ). w among pixelsWritten method l (q .source) (coloured-bytes number x q)) (ap entries is) member);
     }
 

@@ -5,25 +5,10 @@ use mathlib.Core.List.{List, [], _∷_, map}
 use Prim.Native.Nat.{ℕ}
 use lib.ListN.{length}
 use Rattle.tables.specs.Table.{_among_}
-use Rattle.shot.specs.Accuracy.{written}
-use Rattle.shot.specs.Book.{Call, Call.opening, Call.measuring, Call.fixing, Call.colouring}
-use Rattle.shot.specs.Run.{number, trace, WellFormed}
-
--- Two pixels, of the sums 60 and 630.
-abbrev pub two : List ℕ
-two = 10 ∷ 20 ∷ 30 ∷ 200 ∷ 210 ∷ 220 ∷ []
-
--- One pixel, of the sum 300.
-abbrev pub one : List ℕ
-one = 90 ∷ 100 ∷ 110 ∷ []
-
--- Two pixels to be coloured, of the sums 60 and 300.
-abbrev pub both : List ℕ
-both = 10 ∷ 20 ∷ 30 ∷ 90 ∷ 100 ∷ 110 ∷ []
-
--- A pixel and a third.
-abbrev pub uneven : List ℕ
-uneven = 1 ∷ 2 ∷ 3 ∷ 4 ∷ []
+use Rattle.witness.specs.Strips.{two, one, both, uneven}
+use Rattle.book.specs.Accuracy.{written}
+use Rattle.book.specs.Book.{Call, Call.opening, Call.measuring, Call.fixing, Call.colouring}
+use Rattle.book.specs.Run.{number, trace, WellFormed}
 
 -- A colouring by a method, of a source, into a destination.
 abbrev pub colour : ℕ → List ℕ → List ℕ → Call
@@ -57,7 +42,7 @@ calls =
     ∷ colour 1 both two
     ∷ []
 
--- Claim: so the list runs. Proved: proofs/Witness.antt, `witness-runs`.
+-- Claim: so the list runs. Proved: proofs/Calls.antt, `witness-runs`.
 pub record WitnessRuns : Type 0 where
   pub wellFormed : (c : Call) → c among calls → WellFormed c
   pub numbers : map number (trace calls)

@@ -4,9 +4,9 @@ use mathlib.Core.Bool.{Bool, true, false, cond}
 use mathlib.Core.List.{List, [], _∷_, _++_}
 use Prim.Native.Nat.{ℕ, suc}
 use Rattle.pixel.specs.Strip.{Bytes}
-use Rattle.shot.specs.Book.{Call, Call.opening, Call.measuring, Call.fixing, Call.colouring, Book, emptyBook, bookStep}
 use Rattle.shot.specs.Shot.{opened, measured, fixedWith, Outcome, coloured}
 use Rattle.shot.specs.declared.Shot.{Shot}
+use Rattle.book.specs.Book.{Call, Call.opening, Call.measuring, Call.fixing, Call.colouring, Book, emptyBook, bookStep}
 
 -- What the program does on a call, by the definitions that its functions' `ensures` name.
 abbrev pub step : Shot → Call → Outcome

@@ -15,12 +15,12 @@ use Rattle.pixel.specs.Strip.{Bytes}
 use Rattle.curve.specs.Curve.{shareOf, wholeOf, cubeEntry, equalisedEntry, withEnds, entry, toneCurve}
 use Rattle.curve.specs.Histogram.{sumOfFirst}
 use Rattle.curve.specs.Nearest.{nearer, nearestPlace}
-use Rattle.colouring.specs.Colouring.{colouredStrip}
-use Rattle.shot.specs.Book.{Call, Call.opening, Call.measuring, Call.fixing, Call.colouring, curveOf}
-use Rattle.shot.specs.Run.{WellFormed}
 use Rattle.measuring.specs.Histogram.{withPixels}
-use Rattle.shot.specs.Shot.{opened, measured, fixedWith, coloured}
-use Rattle.shot.specs.Witness.{calls, WitnessRuns}
+use Rattle.colouring.specs.Colouring.{colouredStrip}
+use Rattle.shot.specs.Shot.{opened, measured, fixedWith, curveOf, coloured}
+use Rattle.book.specs.Book.{Call, Call.opening, Call.measuring, Call.fixing, Call.colouring}
+use Rattle.book.specs.Run.{WellFormed}
+use Rattle.witness.specs.Calls.{calls, WitnessRuns}
 
 -- a test for bytes, and for what a call brings
 abbrev areBytes : List ℕ → Bool

@@ -10,10 +10,11 @@ use borrow.Author.Tests.{eqb-true, eq-eqb, ne-eqb}
 use lib.Dec.{eqb}
 use Rattle.tables.specs.Table.{_among_}
 use Rattle.tables.proofs.Cases.{cond-same}
-use Rattle.shot.specs.Accuracy.{stripOf, stripsMeasured, FixedBy}
-use Rattle.shot.specs.Book.{Call, Call.opening, Call.measuring, Call.fixing, Call.colouring, Book, emptyBook, curveOf, expectedAnswer, entered, bookStep}
-use Rattle.shot.specs.Run.{Step, number, isOpening}
-use Rattle.shot.proofs.Sound.{no-curve, some-same}
+use Rattle.shot.specs.Shot.{curveOf}
+use Rattle.book.specs.Accuracy.{stripOf, stripsMeasured, FixedBy}
+use Rattle.book.specs.Book.{Call, Call.opening, Call.measuring, Call.fixing, Call.colouring, Book, emptyBook, expectedAnswer, entered, bookStep}
+use Rattle.book.specs.Run.{Step, number, isOpening}
+use Rattle.book.proofs.Sound.{no-curve, some-same}
 
 -- an opening empties the book
 book-opened : (b : Book) (c : Call) → isOpening c ≡ true → bookStep b c ≡ emptyBook

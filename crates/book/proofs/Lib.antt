@@ -1,0 +1,4 @@
+pub mod Sound
+pub mod Steps
+pub mod Pixels
+pub mod Accuracy

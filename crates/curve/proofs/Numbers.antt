@@ -1,7 +1,8 @@
 -- The choices' numbers.
 use mathlib.Core.Path.{_≡_, refl}
 use mathlib.Core.Bool.{true}
-use Rattle.tables.proofs.Cases.{one-of-two}
+use mathlib.Core.List.{[], _∷_}
+use Rattle.refusal.proofs.Numbering.{number-of-case}
 use Rattle.curve.specs.Choices.{choiceNumber, isChoice, choiceOf, ChoicesAreNumbered}
 use Rattle.curve.specs.declared.Choice.{Choice}
 use Rattle.curve.specs.declared.Choice.the-variants.{Cube, Equalised}
@@ -17,4 +18,4 @@ back Cube = refl
 back Equalised = refl
 
 pub choices-are-numbered : ChoicesAreNumbered
-choices-are-numbered = record { named = named; back = back; only = one-of-two choiceNumber Cube Equalised }
+choices-are-numbered = record { named = named; back = back; only = number-of-case choiceNumber Cube (Equalised ∷ []) }

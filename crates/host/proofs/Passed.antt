@@ -8,7 +8,7 @@ use borrow.Author.Tests.{not-false, ltb-false, eqb-false, eqb-true, eq-eqb}
 use lib.Dec.{ltb, eqb}
 use lib.ListN.{length}
 use Rattle.refusal.specs.Refusal.{firstOf}
-use Rattle.refusal.proofs.Laws.{passed}
+use Rattle.refusal.proofs.Laws.{none-applies}
 use Rattle.pixel.specs.Methods.{isMethod}
 use Rattle.pixel.specs.Strip.{isWhole}
 use Rattle.curve.specs.Choices.{isChoice}
@@ -21,11 +21,7 @@ use Rattle.host.proofs.CurveBytes.{length-entries, curve-sound}
 
 pub curve-passed : (choice curve strip : ℕ) → firstOf (curveChecks choice curve strip) ≡ 0 → (curve ≡ curveLength) × WholeShot strip choice
 curve-passed choice curve strip e =
-    let (known, rest) = passed (not (isChoice choice)) 4 _ (omega arith) e in
-    let (sized, rest) = passed (not (eqb curve curveLength)) 10 _ (omega arith) rest in
-    let (whole, rest) = passed (not (isWhole strip)) 2 _ (omega arith) rest in
-    let (some, rest) = passed (eqb strip 0) 5 _ (omega arith) rest in
-    let (limit, _) = passed (ltb pixelLimit (strip / 3)) 3 _ (omega arith) rest in (
+    let (known, (sized, (whole, (some, (limit, _))))) = none-applies (curveChecks choice curve strip) refl e in (
       eqb-true _ _ (not-false _ sized),
       record {
         known = not-false _ known;
@@ -45,11 +41,7 @@ pub record Colourable (curve : List ℕ) (method source destination : ℕ) : Typ
 pub colour-passed : (curve : List ℕ) (method source destination : ℕ) → firstOf (colourChecks curve method source destination) ≡ 0
     → Colourable curve method source destination
 colour-passed curve method source destination e =
-    let (sized, rest) = passed (not (eqb (length curve) curveLength)) 10 _ (omega arith) e in
-    let (ruled, rest) = passed (not (keepsCurveRule (curveEntries curve))) 11 _ (omega arith) rest in
-    let (known, rest) = passed (not (isMethod method)) 7 _ (omega arith) rest in
-    let (whole, rest) = passed (not (isWhole source)) 2 _ (omega arith) rest in
-    let (same, _) = passed (not (eqb destination source)) 8 _ (omega arith) rest in
+    let (sized, (ruled, (known, (whole, (same, _))))) = none-applies (colourChecks curve method source destination) refl e in
     let size : length curve ≡ curveLength = eqb-true _ _ (not-false _ sized) in
     record {
       size = size;

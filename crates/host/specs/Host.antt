@@ -1,10 +1,10 @@
 -- What the host's calls hand back and leave in the runs lent to them (document 01, "The panel's host", "Who can cause which refusal").
-use mathlib.Core.Bool.{Bool, cond, not}
+use mathlib.Core.Bool.{Bool, not}
 use mathlib.Core.List.{List, [], _∷_}
 use Prim.Native.Nat.{ℕ, _/_}
 use lib.Dec.{ltb, eqb}
 use lib.ListN.{length}
-use Rattle.refusal.specs.Refusal.{Check, _refuses_, firstOf}
+use Rattle.refusal.specs.Refusal.{Check, _refuses_, firstOf, ifAccepted}
 use Rattle.pixel.specs.Methods.{isMethod, methodOf}
 use Rattle.pixel.specs.Strip.{isWhole}
 use Rattle.curve.specs.Choices.{isChoice}
@@ -19,7 +19,7 @@ pub record Outcome : Type 0 where
 
 -- An accepted call writes these bytes. A refused one: "destination and curve bytes are not touched", the run holds what it held before.
 abbrev pub outcomeOf : ℕ → List ℕ → List ℕ → Outcome
-outcomeOf number written before = record { number = number; bytes = cond (eqb number 0) written before }
+outcomeOf number written before = record { number = number; bytes = ifAccepted number written before }
 
 -- What the curve call brings: a strip, a choice, and what the run for the curve holds.
 pub record CurveCall : Type 0 where

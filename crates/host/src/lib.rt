@@ -90,19 +90,19 @@ fn curve_refusal(known: bool, sized: bool, whole: bool, empty: bool, over: bool)
     ensures { λ r. ⌜ r ≡ firstOf (curveRefusals known sized whole empty over) ⌝ }
 {
     if !known {
-        return 4;
+        return refusal::NO_SUCH_CHOICE;
     }
     if !sized {
-        return 10;
+        return refusal::CURVE_LENGTH_WRONG;
     }
     if !whole {
-        return 2;
+        return refusal::NOT_WHOLE_PIXELS;
     }
     if empty {
-        return 5;
+        return refusal::NO_PIXEL;
     }
     if over {
-        return 3;
+        return refusal::TOO_MANY_PIXELS;
     }
     0
 }
@@ -125,16 +125,16 @@ fn colour_refusal(ruled: bool, known: bool, whole: bool, same: bool) -> u32
     ensures { λ r. ⌜ r ≡ firstOf (colourRefusals ruled known whole same) ⌝ }
 {
     if !ruled {
-        return 11;
+        return refusal::CURVE_RULE_BROKEN;
     }
     if !known {
-        return 7;
+        return refusal::NO_SUCH_METHOD;
     }
     if !whole {
-        return 2;
+        return refusal::NOT_WHOLE_PIXELS;
     }
     if !same {
-        return 8;
+        return refusal::LENGTHS_DIFFER;
     }
     0
 }
@@ -175,7 +175,7 @@ pub extern "C" fn cube_balance_colour(
     ensures { λ r. ⌜ colourOutcome (record { curve = now (curve .entry); method = method; source = now (source .entry); destination = now (destination .entry) }) ≡ record { number = r; bytes = now (destination .exit) } ⌝ }
 {
     if curve.len() != CURVE_LENGTH {
-        return 10;
+        return refusal::CURVE_LENGTH_WRONG;
     }
     let entries = read_curve(curve);
     let number = colour_number(entries, method, source.len(), destination.len());

@@ -1,7 +1,8 @@
 -- The methods' numbers.
 use mathlib.Core.Path.{_≡_, refl}
 use mathlib.Core.Bool.{true}
-use Rattle.tables.proofs.Cases.{one-of-two}
+use mathlib.Core.List.{[], _∷_}
+use Rattle.refusal.proofs.Numbering.{number-of-case}
 use Rattle.pixel.specs.Methods.{methodNumber, isMethod, methodOf, MethodsAreNumbered}
 use Rattle.pixel.specs.declared.Method.{Method}
 use Rattle.pixel.specs.declared.Method.the-variants.{NaikMurthy, YangLee}
@@ -15,4 +16,4 @@ back NaikMurthy = refl
 back YangLee = refl
 
 pub methods-are-numbered : MethodsAreNumbered
-methods-are-numbered = record { named = named; back = back; only = one-of-two methodNumber NaikMurthy YangLee }
+methods-are-numbered = record { named = named; back = back; only = number-of-case methodNumber NaikMurthy (YangLee ∷ []) }

@@ -3,10 +3,11 @@ ghost use mathlib.Core.Path.{_≡_};
 ghost use mathlib.Core.Bool.{true};
 ghost use Prim.Native.Nat.{_+_, _-_, _*_, _<_, _≤_};
 ghost use lib.ListN.{length};
+ghost use Rattle.refusal.specs.Refusal.{firstOf};
 ghost use Rattle.rounding.specs.Near.{near};
 ghost use Rattle.pixel.specs.Methods.{isMethod, methodOf};
 ghost use Rattle.pixel.specs.Move.{naikMurthy, yangLee, byMethod, movedSample, moved};
-ghost use Rattle.pixel.specs.MoveOne.{moveNumber, refusedMove, movedOne};
+ghost use Rattle.pixel.specs.MoveOne.{moveChecks, refusedMove, movedOne};
 ghost use Rattle.pixel.specs.Strip.{pixelFrom};
 ghost use Rattle.pixel.specs.Inner.{AtMostWhite, PixelSample, MovingSample};
 
@@ -191,14 +192,14 @@ pub fn method_of(number: u32) -> Method
 
 // 0, or the first refusal that applies to a single move.
 fn move_number(method: u32, target: u32) -> u32
-    ensures { λ r. ⌜ r ≡ moveNumber method target ⌝ }
+    ensures { λ r. ⌜ r ≡ firstOf (moveChecks method target) ⌝ }
 {
     let known = is_method(method);
     if !known {
-        return 7;
+        return refusal::NO_SUCH_METHOD;
     }
     if 765 < target {
-        return 9;
+        return refusal::TARGET_TOO_LARGE;
     }
     0
 }

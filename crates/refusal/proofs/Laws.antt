@@ -1,17 +1,33 @@
 -- Laws of refusals.
-use mathlib.Core.Path.{_≡_, refl}
-use mathlib.Core.Bool.{Bool, true, false, cond}
+use mathlib.Core.Path.{_≡_, refl, _∙_}
+use mathlib.Core.Bool.{Bool, true, false, _&&_, _||_, not, cond, false≢true}
 use mathlib.Core.List.{List, [], _∷_}
 use Prim.Native.Nat.{ℕ, _<_}
 use native.Mathlib.Omega.{arith}
-use borrow.Author.Tests.{eqb-true, ne-eqb}
-use lib.Dec.{eqb}
-use Rattle.refusal.specs.Refusal.{Check, firstOf}
+use borrow.Author.Tests.{eqb-true, eq-eqb, ne-eqb, ltb-true}
+use lib.Dec.{ltb, eqb}
+use Rattle.refusal.specs.Refusal.{Check, firstOf, ifAccepted, NoneApplies, areNumbered, AcceptedMeans}
 
--- an answer of 0 says that the first check does not apply and that the others' answer is 0
-pub passed : (applies : Bool) (number rest : ℕ) → 0 < number → cond applies number rest ≡ 0 → (applies ≡ false) × (rest ≡ 0)
-passed true number rest positive e = absurd (omega arith)
-passed false number rest positive e = (refl, e)
+-- an answer of 0 says that no check applies
+pub none-applies : (checks : List Check) → areNumbered checks ≡ true → firstOf checks ≡ 0 → NoneApplies checks
+none-applies [] numbered e = tt
+none-applies (c ∷ cs) numbered e = go (c .applies) (ltb 0 (c .number)) (ltb-true 0 (c .number)) numbered e (none-applies cs)
+  where
+    go : (applies positive : Bool) → (positive ≡ true → 0 < c .number) → ((positive || not applies) && areNumbered cs) ≡ true
+        → cond applies (c .number) (firstOf cs) ≡ 0 → (areNumbered cs ≡ true → firstOf cs ≡ 0 → NoneApplies cs)
+        → (applies ≡ false) × NoneApplies cs
+    go true true above numbered e rest = absurd (omega (arith, above refl))
+    go true false above numbered e rest = absurd (false≢true numbered)
+    go false true above numbered e rest = (refl, rest numbered e)
+    go false false above numbered e rest = (refl, rest numbered e)
+
+-- and where none applies, the answer is 0
+pub accepted : (checks : List Check) → NoneApplies checks → firstOf checks ≡ 0
+accepted [] none = refl
+accepted (c ∷ cs) (first, others) = rw first (accepted cs others)
+
+pub accepted-means : AcceptedMeans
+accepted-means checks numbered = (none-applies checks numbered, accepted checks)
 
 -- what holds of every check's number
 abbrev pub EachNumber : (ℕ → Type 0) → List Check → Type 0
@@ -27,13 +43,16 @@ first-keeps P (c ∷ checks) (one, each) none = go (c .applies) (first-keeps P c
     go true rest = one
     go false rest = rest
 
--- A call that is accepted, by the number 0, leaves `new`; a refused one leaves `old`.
+-- What a call leaves.
 module _ {A : Type 0} (number : ℕ) (new old : A) where
-  pub refused-leaves : (number ≡ 0 → ⊥) → cond (eqb number 0) new old ≡ old
+  pub accepted-leaves : number ≡ 0 → ifAccepted number new old ≡ new
+  accepted-leaves zero = simp (eq-eqb number 0 zero)
+
+  pub refused-leaves : (number ≡ 0 → ⊥) → ifAccepted number new old ≡ old
   refused-leaves refused = simp (ne-eqb number 0 refused)
 
   -- what holds of both holds of what is left
-  pub either-leaves : (P : A → Type 0) → (number ≡ 0 → P new) → P old → P (cond (eqb number 0) new old)
+  pub either-leaves : (P : A → Type 0) → (number ≡ 0 → P new) → P old → P (ifAccepted number new old)
   either-leaves P accepted refused = go (eqb number 0) refl
     where
       go : (t : Bool) → eqb number 0 ≡ t → P (cond t new old)

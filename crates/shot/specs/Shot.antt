@@ -1,10 +1,10 @@
 -- What a shot's calls hand back (document 01, "The ground covered", "Measuring", "Who can cause which refusal").
-use mathlib.Core.Bool.{Bool, true, false, cond, not}
+use mathlib.Core.Bool.{Bool, true, false, not}
 use mathlib.Core.List.{List, [], _∷_, _++_}
 use Prim.Native.Nat.{ℕ, _+_, _/_}
 use lib.Dec.{ltb, eqb}
 use lib.ListN.{length, replicate}
-use Rattle.refusal.specs.Refusal.{Check, _refuses_, firstOf}
+use Rattle.refusal.specs.Refusal.{Check, _refuses_, firstOf, ifAccepted}
 use Rattle.pixel.specs.Methods.{isMethod, methodOf}
 use Rattle.pixel.specs.Strip.{isWhole, pixelsOf}
 use Rattle.pixel.specs.declared.Pixel.{Pixel}
@@ -26,7 +26,7 @@ opened = record { counts = replicate 766 0; pixels = 0; fixed = false; curve = r
 
 -- A call's answer: the shot y where it is accepted. A refused measure or fix hands back the shot x unchanged.
 abbrev pub answered : ℕ → Shot → Shot → Answer
-answered number y x = record { shot = cond (eqb number 0) y x; number = number }
+answered number y x = record { shot = ifAccepted number y x; number = number }
 
 -- Measure 1, 2, 3. 1: a shot already fixed. 2: the length is not a multiple of 3. 3: the pixels would exceed the limit.
 abbrev pub measureRefusals : Bool → Bool → Bool → List Check
@@ -109,7 +109,7 @@ abbrev pub carriedOut : ℕ → Shot → ColourRequest → Outcome
 carriedOut number x q =
     record {
       answer = record { shot = x; number = number };
-      bytes = cond (eqb number 0) (colouredStrip (methodOf (q .method)) (x .curve) (q .source)) (q .destination);
+      bytes = ifAccepted number (colouredStrip (methodOf (q .method)) (x .curve) (q .source)) (q .destination);
     }
 
 -- What colouring leaves.

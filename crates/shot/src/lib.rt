@@ -31,13 +31,13 @@ fn measure_refusal(fixed: bool, whole: bool, over: bool) -> u32
     ensures { λ r. ⌜ r ≡ firstOf (measureRefusals fixed whole over) ⌝ }
 {
     if fixed {
-        return 1;
+        return refusal::ALREADY_FIXED;
     }
     if !whole {
-        return 2;
+        return refusal::NOT_WHOLE_PIXELS;
     }
     if over {
-        return 3;
+        return refusal::TOO_MANY_PIXELS;
     }
     0
 }
@@ -57,13 +57,13 @@ fn fix_refusal(fixed: bool, known: bool, empty: bool) -> u32
     ensures { λ r. ⌜ r ≡ firstOf (fixRefusals fixed known empty) ⌝ }
 {
     if fixed {
-        return 1;
+        return refusal::ALREADY_FIXED;
     }
     if !known {
-        return 4;
+        return refusal::NO_SUCH_CHOICE;
     }
     if empty {
-        return 5;
+        return refusal::NO_PIXEL;
     }
     0
 }
@@ -80,16 +80,16 @@ fn colour_refusal(fixed: bool, known: bool, whole: bool, same: bool) -> u32
     ensures { λ r. ⌜ r ≡ firstOf (colourRefusals fixed known whole same) ⌝ }
 {
     if !fixed {
-        return 6;
+        return refusal::NOT_FIXED;
     }
     if !known {
-        return 7;
+        return refusal::NO_SUCH_METHOD;
     }
     if !whole {
-        return 2;
+        return refusal::NOT_WHOLE_PIXELS;
     }
     if !same {
-        return 8;
+        return refusal::LENGTHS_DIFFER;
     }
     0
 }

@@ -1,15 +1,16 @@
 -- The answer to a file, case by case.
 use mathlib.Core.Path.{_≡_, refl, sym, ap, ap₂, _∙_}
-use mathlib.Core.Bool.{Bool, true, false, not, cond}
-use mathlib.Core.List.{List}
+use mathlib.Core.Bool.{true, not}
+use mathlib.Core.List.{List, _∷_}
 use Prim.Native.Nat.{ℕ, _+_, _-_, _≤_, _<_, zero-le}
 use native.Mathlib.Nat.{zero-add}
 use native.Mathlib.Omega.{arith}
-use borrow.Author.Tests.{eq-eqb, ne-eqb, eqb-true, eqb-false, lt-ltb, le-ltb, ltb-false}
-use lib.Dec.{ltb, eqb}
+use borrow.Author.Tests.{eq-eqb, ne-eqb, eqb-true, lt-ltb, le-ltb, ltb-false, not-false}
+use lib.Dec.{eqb}
 use lib.ListN.{length, length-append, length-drop}
-use Rattle.refusal.specs.Refusal.{firstOf}
-use Rattle.refusal.proofs.Laws.{passed, refused-leaves}
+use Rattle.refusal.specs.Refusal.{Check, _refuses_, firstOf, areNumbered}
+use Rattle.refusal.proofs.Laws.{none-applies, accepted-leaves, refused-leaves}
+use Rattle.tables.proofs.Cases.{either}
 use Rattle.text.specs.Text.{Writes}
 use Rattle.shot.specs.Inner.{WholeShot}
 use Rattle.netpbm.specs.Header.{headerOf, numberOf, valuesOf, headerText, Fitting}
@@ -42,37 +43,36 @@ number-of-samples reading size e = rw (eq-eqb (numberOf reading) 0 e) refl
 pub number-of-header : (reading : Reading) (size : ℕ) → (numberOf reading ≡ 0 → ⊥) → firstOf (fileChecks reading size) ≡ numberOf reading
 number-of-header reading size refused = rw (ne-eqb (numberOf reading) 0 refused) refl
 
--- where no check of the samples applies, exactly the samples due are present
-checks-passed : (due present : ℕ) → firstOf (sampleChecks due present) ≡ 0 → present ≡ due
-checks-passed due present e =
-    let (few, rest) = passed (ltb present due) 15 _ (omega arith) e in
-    let (many, _) = passed (ltb due present) 16 _ (omega arith) rest in
-    omega (arith, ltb-false present due few, ltb-false due present many)
+-- a header's own check has a number where it applies
+header-numbered : (n : ℕ) (checks : List Check) → areNumbered checks ≡ true → areNumbered (not (eqb n 0) refuses n ∷ checks) ≡ true
+header-numbered n checks rest =
+    either n 0 (λ l. simp (eq-eqb n 0 (omega arith), le-ltb 0 n (omega arith)) rest) (λ l. simp (lt-ltb 0 n l) rest)
 
--- where no check of a file applies, the header's does not, and the samples' do not
-file-passed : (n rest : ℕ) → cond (not (eqb n 0)) n rest ≡ 0 → (n ≡ 0) × (rest ≡ 0)
-file-passed n rest e = go (eqb n 0) (eqb-true n 0) (eqb-false n 0) e
-  where
-    go : (t : Bool) → (t ≡ true → n ≡ 0) → (t ≡ false → n ≡ 0 → ⊥) → cond (not t) n rest ≡ 0 → (n ≡ 0) × (rest ≡ 0)
-    go true accepted refused e = (accepted refl, e)
-    go false accepted refused e = absurd (refused refl e)
+-- where no check of a file applies, the header's does not, and exactly the samples due are present
+file-passed : (reading : Reading) (size : ℕ) → firstOf (fileChecks reading size) ≡ 0
+    → (numberOf reading ≡ 0) × (size - valuesOf reading .start ≡ samplesDue (valuesOf reading))
+file-passed reading size e =
+    let due = samplesDue (valuesOf reading) in
+    let present = size - valuesOf reading .start in
+    let (header, (few, (many, _))) = none-applies (fileChecks reading size) (header-numbered (numberOf reading) (sampleChecks due present) refl) e in
+    (eqb-true _ _ (not-false _ header), omega (arith, ltb-false present due few, ltb-false due present many))
 
 -- A legal file.
 module _ (file : List ℕ) (legal : Legal file) where
-  checks : (numberOf (headerOf file) ≡ 0) × (firstOf (sampleChecks (samplesDue (fileHeader file)) (length file - fileHeader file .start)) ≡ 0)
+  passed : (numberOf (headerOf file) ≡ 0) × (length file - fileHeader file .start ≡ samplesDue (fileHeader file))
   unfolding fileNumber
-  checks = file-passed (numberOf (headerOf file)) _ legal
+  passed = file-passed (headerOf file) (length file) legal
 
   -- its header is accepted
   legal-reads : headerOf file ≡ Accepted (fileHeader file)
-  legal-reads = accepted-is (headerOf file) (checks .0)
+  legal-reads = accepted-is (headerOf file) (passed .0)
 
   pub legal-fits : Fitting (fileHeader file) (length file)
   legal-fits = accepted-headers-fit file (fileHeader file) legal-reads
 
   -- it has exactly the samples due
   pub legal-exact : length (fileSamples file) ≡ samplesDue (fileHeader file)
-  legal-exact = length-drop (fileHeader file .start) file ∙ checks-passed (samplesDue (fileHeader file)) _ (checks .1)
+  legal-exact = length-drop (fileHeader file .start) file ∙ passed .1
 
   -- so they make a whole shot
   pub legal-shot : WholeShot (length (fileSamples file)) fileChoice
@@ -81,7 +81,7 @@ module _ (file : List ℕ) (legal : Legal file) where
   -- and its answer is a picture
   pub legal-answer : answer file ≡ picture (fileHeader file .width) (fileHeader file .height) (fileSamples file)
   unfolding answer
-  legal-answer = rw (eq-eqb (fileNumber file) 0 legal) refl
+  legal-answer = accepted-leaves (fileNumber file) _ _ legal
 
   pub legal-size : length (answer file) ≡ length (headerText (fileHeader file .width) (fileHeader file .height)) + samplesDue (fileHeader file)
   unfolding picture

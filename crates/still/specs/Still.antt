@@ -5,7 +5,7 @@ use mathlib.Core.List.{List, [], _∷_, _++_}
 use Prim.Native.Nat.{ℕ, _+_, _-_, _*_}
 use lib.Dec.{ltb, eqb}
 use lib.ListN.{length, drop}
-use Rattle.refusal.specs.Refusal.{Check, _refuses_, firstOf}
+use Rattle.refusal.specs.Refusal.{Check, _refuses_, firstOf, ifAccepted}
 use Rattle.text.specs.Decimal.{decimal}
 use Rattle.text.specs.Text.{ascii, writtenAt}
 use Rattle.pixel.specs.Methods.{methodOf}
@@ -68,7 +68,7 @@ fileSamples file = drop (fileHeader file .start) file
 -- What `balance` writes for a file: the picture, or the refusal.
 unfoldable pub answer : List ℕ → List ℕ
 answer file =
-    cond (eqb (fileNumber file) 0)
+    ifAccepted (fileNumber file)
     (picture (fileHeader file .width) (fileHeader file .height) (fileSamples file))
     (refusalLine (fileNumber file))
 

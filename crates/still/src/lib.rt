@@ -51,10 +51,10 @@ fn samples_number(due: usize, present: usize) -> u32
     ensures { λ r. ⌜ r ≡ firstOf (sampleChecks due present) ⌝ }
 {
     if present < due {
-        return 15;
+        return refusal::TOO_FEW_SAMPLES;
     }
     if due < present {
-        return 16;
+        return refusal::BYTES_AFTER_SAMPLES;
     }
     0
 }

@@ -1,9 +1,9 @@
 -- Case distinctions.
-use mathlib.Core.Path.{_≡_, refl, sym}
-use mathlib.Core.Bool.{Bool, true, false, _&&_, _||_, cond, false≢true}
+use mathlib.Core.Path.{_≡_, refl}
+use mathlib.Core.Bool.{Bool, true, false, _&&_, cond, false≢true}
 use Prim.Native.Nat.{ℕ, _≤_, _<_}
-use borrow.Author.Tests.{eqb-true, leb-true, leb-false}
-use lib.Dec.{eqb, leb}
+use borrow.Author.Tests.{leb-true, leb-false}
+use lib.Dec.{leb}
 
 -- both tests hold
 pub both : (t u : Bool) → (t && u) ≡ true → (t ≡ true) × (u ≡ true)
@@ -27,12 +27,3 @@ either {P} m n low high = go (leb m n) (leb-true m n) (leb-false m n)
     go : (t : Bool) → (t ≡ true → m ≤ n) → (t ≡ false → n < m) → P
     go true p q = low (p refl)
     go false p q = high (q refl)
-
--- a number that is one of two cases' is that case's
-pub one-of-two : {A : Type 0} (number : A → ℕ) (a b : A) (n : ℕ) → (eqb n (number a) || eqb n (number b)) ≡ true
-    → number (cond (eqb n (number a)) a b) ≡ n
-one-of-two number a b n h = go (eqb n (number a)) (eqb-true n (number a)) h
-  where
-    go : (first : Bool) → (first ≡ true → n ≡ number a) → (first || eqb n (number b)) ≡ true → number (cond first a b) ≡ n
-    go true e h = sym (e refl)
-    go false e h = sym (eqb-true n (number b) h)

@@ -194,9 +194,9 @@ pub fn number_of(reading: Reading) -> u32
 {
     match reading {
         Reading::Accepted(_) => 0,
-        Reading::Malformed => 12,
-        Reading::OtherLargest => 13,
-        Reading::OtherSize => 14,
+        Reading::Malformed => refusal::HEADER_MALFORMED,
+        Reading::OtherLargest => refusal::OTHER_LARGEST_VALUE,
+        Reading::OtherSize => refusal::AREA_OUT_OF_RANGE,
     }
 }
 

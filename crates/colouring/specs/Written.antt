@@ -1,11 +1,13 @@
 -- The pixels that a colouring writes, and their accuracy (document 00, demand 3).
-use mathlib.Core.List.{List}
+use mathlib.Core.List.{List, []}
 use mathlib.Core.Path.{_≡_}
 use Prim.Native.Nat.{ℕ, _+_, _/_, _≤_}
 use lib.ListN.{length}
+use Rattle.refusal.specs.Refusal.{ifAccepted}
 use Rattle.tables.specs.Table.{tabulate, at, _among_}
 use Rattle.pixel.specs.Accuracy.{factor, PixelAccurate}
-use Rattle.pixel.specs.Move.{intensity, moved}
+use Rattle.pixel.specs.Move.{Channel, sample, intensity, moved}
+use Rattle.pixel.specs.Paper.{Rounds, exactSample}
 use Rattle.pixel.specs.Strip.{pixelAt, Bytes}
 use Rattle.pixel.specs.declared.Method.{Method}
 use Rattle.pixel.specs.declared.Pixel.{Pixel}
@@ -28,6 +30,10 @@ WrittenAccurate w =
 abbrev pub WrittenExact : Written → Type 0
 WrittenExact w = w .output ≡ moved (w .method) (w .input) (w .entry)
 
+-- The same, in the paper's words: each sample is the exact value of the paper's formula, rounded once.
+abbrev pub WrittenRounded : Written → Type 0
+WrittenRounded w = (a : Channel) → Rounds (sample (w .output) a) (exactSample (w .method) (w .input) (w .entry) a)
+
 -- The pixels of a source that was coloured by a method and a curve, the destination then holding these bytes.
 abbrev pub pixelsWritten : Method → List ℕ → List ℕ → List ℕ → List Written
 pixelsWritten method curve source bytes =
@@ -45,7 +51,7 @@ pixelsWritten method curve source bytes =
 abbrev pub colouredPixels : Method → List ℕ → List ℕ → List Written
 colouredPixels method curve source = pixelsWritten method curve source (colouredStrip method curve source)
 
--- Claim: every pixel written is exact. Proved: proofs/Written.antt, `coloured-pixels-are-exact`.
+-- Claim: every pixel that a colouring writes is exact. Proved: proofs/Written.antt, `coloured-pixels-are-exact`.
 abbrev pub ColouredPixelsAreExact : Type 0
 ColouredPixelsAreExact =
     (method : Method) (curve source : List ℕ) (w : Written) → w among colouredPixels method curve source → WrittenExact w
@@ -66,3 +72,27 @@ abbrev pub OneCurveKeepsOrder : Type 0
 OneCurveKeepsOrder =
     (m n : Method) (curve source other : List ℕ) → IsToneCurve curve → Bytes source → Bytes other
     → (v w : Written) → v among colouredPixels m curve source → w among colouredPixels n curve other → AtMostTwoBelow v w
+
+-- A colouring that was answered: its number, the method and the curve, the source, and what the destination held before and after.
+pub record Colouring : Type 0 where
+  pub number : ℕ
+  pub method : Method
+  pub curve : List ℕ
+  pub source : List ℕ
+  pub before : List ℕ
+  pub after : List ℕ
+
+-- The pixels that it wrote: those of an accepted one, each with the curve's entry for its intensity. A refused one writes none.
+abbrev pub writtenBy : Colouring → List Written
+writtenBy c = ifAccepted (c .number) (pixelsWritten (c .method) (c .curve) (c .source) (c .after)) []
+
+-- What holds of every colouring, from a shot or by the host.
+pub record ColouringAccurate (c : Colouring) : Type 0 where
+  -- it leaves the destination as long as it was, and a refused one leaves every byte of it
+  pub size : length (c .after) ≡ length (c .before)
+  pub untouched : (c .number ≡ 0 → ⊥) → c .after ≡ c .before
+  -- every pixel written is the source pixel, moved to the entry by the method, and so the paper's, rounded once (demand 2)
+  pub exact : (w : Written) → w among writtenBy c → WrittenExact w
+  pub rounded : (w : Written) → w among writtenBy c → WrittenRounded w
+  -- "every pixel written keeps four rules"
+  pub rules : (w : Written) → w among writtenBy c → WrittenAccurate w

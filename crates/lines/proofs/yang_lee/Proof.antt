@@ -1,0 +1,35 @@
+-- `lines::yang_lee` meets its contract.
+use native.Mathlib.Omega.{arith}
+use Rattle.lines.proofs.Along.{along-II}
+use borrow.Author.Needs.{needs}
+use Rattle.lines.proofs.yang_lee.Statement.{statement}
+use Rattle.lines.proofs.yang_lee.Tie as tie
+
+yang-lee-dark-requires : tie.Need-yang-lee-dark-requires
+yang-lee-dark-requires c κs = search needs
+
+returns : tie.Need-returns
+returns c = search needs
+
+naik-murthy-requires : tie.Need-naik-murthy-requires
+naik-murthy-requires c κs = search needs
+
+returns-2 : tie.Need-returns-2
+returns-2 c = along-II (c .before .before .before .pre) (omega arith) (omega arith) _ (c .naik-murthy .ensures)
+
+yang-lee-bright-requires : tie.Need-yang-lee-bright-requires
+yang-lee-bright-requires c κs = search needs
+
+returns-3 : tie.Need-returns-3
+returns-3 c = search needs
+
+pub yang-lee-spec : {M : Type 1} → statement M
+yang-lee-spec =
+    tie.close
+    (tie.spec
+    yang-lee-dark-requires
+    returns
+    naik-murthy-requires
+    returns-2
+    yang-lee-bright-requires
+    returns-3)

@@ -1,7 +1,7 @@
--- `pixel::by_method` meets its contract.
+-- `pixel::line_of` meets its contract.
 use borrow.Author.Needs.{needs}
-use Rattle.pixel.proofs.by_method.Statement.{statement}
-use Rattle.pixel.proofs.by_method.Tie as tie
+use Rattle.pixel.proofs.line_of.Statement.{statement}
+use Rattle.pixel.proofs.line_of.Tie as tie
 
 enum-told : tie.Need-enum-told
 enum-told c = search needs
@@ -21,7 +21,7 @@ returns c = rw (c .before .enum-told .given .1) (c .naik-murthy .ensures)
 returns-2 : tie.Need-returns-2
 returns-2 c = rw (c .before .enum-told2 .given .1) (c .yang-lee .ensures)
 
-pub by-method-spec : {M : Type 1} → statement M
-by-method-spec =
+pub line-of-spec : {M : Type 1} → statement M
+line-of-spec =
     tie.close
     (tie.spec enum-told naik-murthy-requires enum-told-2 yang-lee-requires returns returns-2)

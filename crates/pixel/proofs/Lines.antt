@@ -233,7 +233,6 @@ module _ (m : Method) {s f c : ℕ} (h : MovingSample s f c) where
       record {
         positive = facts .positive;
         divisor = facts .divisor;
-        byte = sample-facts .byte;
         steep = facts .steep;
         small = sample-facts .small;
       }

@@ -1,11 +1,10 @@
 -- What the inner functions of this crate require; their callers show it. No outside call's contract cites these.
 use Prim.Native.Nat.{ℕ, _+_, _*_, _<_, _≤_}
 
--- x × n / d is at most 255, and so are x and n / d; d is one of document 01's divisors.
+-- x × n / d is at most 255, and so is n / d; d is one of document 01's divisors.
 pub record AtMostWhite (x n d : ℕ) : Type 0 where
   pub positive : 0 < d
   pub divisor : d ≤ 1530
-  pub byte : x ≤ 255
   pub steep : n ≤ 255 * d
   pub small : x * n ≤ 255 * d
 

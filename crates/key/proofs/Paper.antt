@@ -7,15 +7,13 @@ use borrow.Author.Tests.{le-leb, lt-leb, eq-eqb, ne-eqb}
 use Rattle.rounding.specs.Fraction.{Fraction, whole, _over_, _⊕_, _⊗_, _≈_}
 use Rattle.tables.proofs.Cases.{either}
 use Rattle.pixel.specs.Accuracy.{factor}
-use Rattle.pixel.specs.Inner.{AtMostWhite, Moving, MovingSample}
+use Rattle.pixel.specs.Inner.{AtMostWhite, MovingSample}
 use Rattle.pixel.specs.Lines.{lineOf, distance, fraction, exactly}
-use Rattle.pixel.specs.Move.{Channel, sample, InRange, intensity}
-use Rattle.pixel.specs.Paper.{Exact, Exact.up, paper, codeValue, exactSample}
+use Rattle.pixel.specs.Move.{Channel, sample, intensity}
+use Rattle.pixel.specs.Paper.{Exact, Exact.up, paper, codeValue}
 use Rattle.pixel.specs.declared.Direction.{Direction}
 use Rattle.pixel.specs.declared.Direction.the-variants.{Up, Down}
-use Rattle.pixel.specs.declared.Line.{Line}
 use Rattle.pixel.specs.declared.Method.{Method}
-use Rattle.pixel.specs.declared.Pixel.{Pixel}
 use Rattle.pixel.proofs.Channels.{inside, black-samples, white-samples}
 use Rattle.pixel.proofs.Lines.{Away, moving, sample-facts, fits, factors-are-fractions, paper-follows-lines}
 use Rattle.pixel.proofs.Paper.{at-most-one}

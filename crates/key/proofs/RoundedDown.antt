@@ -43,10 +43,10 @@ module _ (p : Pixel) (f : ℕ) (light : 0 < intensity p) where
   total : p .r * f + p .g * f + p .b * f ≡ f * s
   total = omega (arith, add-mul (p .r + p .g) (p .b) f, add-mul (p .r) (p .g) f, mul-comm f s)
 
-  abbrev sum : ℕ
-  sum = intensity (roundedDown p f)
+  abbrev out : ℕ
+  out = intensity (roundedDown p f)
 
-  parts : sum * s ≡ p .r * f / s * s + p .g * f / s * s + p .b * f / s * s
+  parts : out * s ≡ p .r * f / s * s + p .g * f / s * s + p .b * f / s * s
   parts =
       omega (arith, add-mul (p .r * f / s + p .g * f / s) (p .b * f / s) s, add-mul (p .r * f / s) (p .g * f / s) s)
 
@@ -54,11 +54,11 @@ module _ (p : Pixel) (f : ℕ) (light : 0 < intensity p) where
   kept-rounding-down = record {
     hue = differences-keep-hue 1 (f over s) p (roundedDown p f) keeps-differences;
     intensityAbove =
-        less-step sum f s
+        less-step out f s
         (omega (arith, total, parts, down-above (p .r), down-above (p .g), down-above (p .b)));
     intensityBelow =
-        less-step f (sum + 2) s
-        (omega (arith, total, parts, add-mul sum 2 s, down-below (p .r), down-below (p .g), down-below (p .b)));
+        less-step f (out + 2) s
+        (omega (arith, total, parts, add-mul out 2 s, down-below (p .r), down-below (p .g), down-below (p .b)));
   }
 
 pub rounding-down-keeps-hue : RoundingDownKeepsHue

@@ -37,7 +37,7 @@ record FromBytes (w : Written) : Type 0 where
   input : InRange (w .input)
   entry : w .entry ≤ 765
 
--- so it is for a pixel written in an accepted call, from bytes and by a curve of targets
+-- that holds of a pixel written in an accepted call, from bytes and by a curve of targets
 from-bytes : (n : ℕ) (method : Method) (curve source bytes : List ℕ) → (n ≡ 0 → EntriesInRange curve) → Bytes source
     → (w : Written) → w among cond (eqb n 0) (pixelsWritten method curve source bytes) [] → FromBytes w
 from-bytes n method curve source bytes targets samples w m = go (eqb n 0) refl m
@@ -71,20 +71,20 @@ entries-are-targets (some c) shape = shape c refl .range
 
 pub calls-keep-widths : CallsKeepWidths
 calls-keep-widths calls ok before t o w m =
-    let good = accuracy calls ok .steps before t o in
+    let accurate = accuracy calls ok .steps before t o in
     let q = requested (t .call) in
     let from = from-bytes (number t) (methodOf (q .method)) (entries (t .book .curve)) (q .source) (t .outcome .bytes)
-    (λ e. entries-are-targets (t .book .curve) (good .shape))
+    (λ e. entries-are-targets (t .book .curve) (accurate .shape))
     (requested-bytes (t .call) (step-brings calls ok before t o)) w m in
-    written-widths w from (good .exact w m) (good .rules w m)
+    written-widths w from (accurate .exact w m) (accurate .rules w m)
 
 pub host-keeps-widths : HostKeepsWidths
 host-keeps-widths c bytes w m =
-    let good = host-accurate .colourings c bytes in
+    let accurate = host-accurate .colourings c bytes in
     let from = from-bytes (colourOutcome c .number) (methodOf (c .method)) (curveEntries (c .curve)) (c .source) (colourOutcome c .bytes)
-    (λ e. good .shape e .range)
+    (λ e. accurate .shape e .range)
     bytes w m in
-    written-widths w from (good .exact w m) (good .rules w m)
+    written-widths w from (accurate .exact w m) (accurate .rules w m)
 
 pub files-keep-widths : FilesKeepWidths
 files-keep-widths file bytes legal destination same =

@@ -85,6 +85,6 @@ pub record KeepsHue (n : ℕ) (p q : Pixel) : Type 0 where
   pub angle : KeepsAngle n p q
   pub middle : KeepsMiddle n p q
 
--- Claim: whatever made q, and by whichever factor, where differences are kept hue is. Proved: proofs/Hue.antt, `differences-keep-hue`.
+-- Claim: where differences are kept, hue is, whatever made q and by whichever factor. Proved: proofs/Hue.antt, `differences-keep-hue`.
 abbrev pub DifferencesKeepHue : Type 0
 DifferencesKeepHue = (n : ℕ) (k : Fraction) (p q : Pixel) → KeepsDifferences n k p q → KeepsHue n p q

@@ -9,6 +9,7 @@ use Rattle.key.specs.Hue.{KeepsHue}
 abbrev pub roundedDown : Pixel → ℕ → Pixel
 roundedDown p f = eachSample (λ c. c * f / intensity p) p
 
+-- What p keeps, rounded down: hue to the same bound, and an intensity that is never above the target.
 pub record KeptRoundingDown (p : Pixel) (f : ℕ) : Type 0 where
   pub hue : KeepsHue 1 p (roundedDown p f)
   pub intensityAbove : intensity (roundedDown p f) ≤ f

@@ -2,7 +2,7 @@
 -- denominator.
 use mathlib.Core.Path.{_≡_, refl, sym, ap, subst, _∙_}
 use mathlib.Core.Logic.{⊎-elim}
-use Prim.Native.Nat.{ℕ, _+_, _-_, _*_, _<_, _≤_}
+use Prim.Native.Nat.{ℕ, _+_, _*_, _<_, _≤_}
 use native.Mathlib.Nat.{mul-comm, add-mul, mul-le-mul-right}
 use native.Mathlib.Omega.{arith}
 use borrow.Author.Tests.{eq-eqb, ne-eqb}
@@ -16,7 +16,6 @@ use Rattle.pixel.specs.Move.{Channel, Channel.red, Channel.green, Channe
 use Rattle.pixel.specs.Accuracy.{factor, mission, PixelAccurate, MovesAreAccurate, EndsStay}
 use Rattle.pixel.specs.declared.Direction.{Direction}
 use Rattle.pixel.specs.declared.Direction.the-variants.{Up, Down}
-use Rattle.pixel.specs.declared.Line.{Line}
 use Rattle.pixel.specs.declared.Method.{Method}
 use Rattle.pixel.specs.declared.Pixel.{Pixel}
 use Rattle.pixel.proofs.Channels.{sample-each, inside, black-samples, white-samples}
@@ -46,7 +45,11 @@ module _ (x : Channel → ℕ) (n d : ℕ) (positive : 0 < d) (total : x red + x
     rounded-range : (a : Channel) → rounded a ≤ 255
     rounded-range a = near-le d positive (x a * n) 255 (small a)
 
-    -- a full step is more than the roundings of two samples part by
+    -- counted down from white, a sample and what it is rounded from make up 255
+    make-up : ((a : Channel) → sample q a ≡ counted Down (rounded a)) → (a : Channel) → sample q a + rounded a ≡ 255
+    make-up out a = omega (arith, out a, rounded-range a)
+
+    -- two samples part by less than a full step more than their distances do
     step : (way : Direction) → ((a : Channel) → Away way start (x a) (sample p a)) → ((a : Channel) → sample q a ≡ counted way (rounded a))
         → (a b : Channel) → sample q a * d + sample p b * n < sample q b * d + sample p a * n + 1 * d
     step Up away out a b =
@@ -61,12 +64,11 @@ module _ (x : Channel → ℕ) (n d : ℕ) (positive : 0 < d) (total : x red + x
           add-mul (x b) start n,
         )
     step Down away out a b =
-        let whole : (a : Channel) → sample q a + rounded a ≡ 255 = λ a. omega (arith, out a, rounded-range a) in
         omega (
           arith,
           near-difference d positive (x b * n) (x a * n),
-          ap (λ (t : ℕ). t * d) (whole a),
-          ap (λ (t : ℕ). t * d) (whole b),
+          ap (λ (t : ℕ). t * d) (make-up out a),
+          ap (λ (t : ℕ). t * d) (make-up out b),
           ap (λ (t : ℕ). t * n) (away a),
           ap (λ (t : ℕ). t * n) (away b),
           add-mul (sample q a) (rounded a) d,
@@ -88,13 +90,13 @@ module _ (x : Channel → ℕ) (n d : ℕ) (positive : 0 < d) (total : x red + x
           };
         }
     along-line Down aims away out =
-        let whole : (a : Channel) → sample q a + rounded a ≡ 255 = λ a. omega (arith, out a, rounded-range a) in
+        let both = make-up out in
         record {
           range = λ a. omega (arith, out a);
-          sum = (omega (arith, rounded-sum, whole red, whole green, whole blue), omega (arith, rounded-sum, whole red, whole green, whole blue));
+          sum = (omega (arith, rounded-sum, both red, both green, both blue), omega (arith, rounded-sum, both red, both green, both blue));
           channels = record {
             denominator = positive;
-            order = λ a b h. omega (arith, whole a, whole b, rounded-order b a (omega (arith, away a, away b)));
+            order = λ a b h. omega (arith, both a, both b, rounded-order b a (omega (arith, away a, away b)));
             difference = λ a b. (step Down away out a b, step Down away out b a);
           };
         }

@@ -1,6 +1,6 @@
 -- The paper's formulas in code values: each is 1 / 255 of a product over a divisor.
 use mathlib.Core.Path.{_≡_, ap, ap₂, subst⁻¹, _∙_}
-use Prim.Native.Nat.{ℕ, _+_, _-_, _*_, _<_, _≤_}
+use Prim.Native.Nat.{ℕ, _-_, _*_, _<_}
 use native.Mathlib.Nat.{sub-zero, mul-one, one-mul, mul-assoc, mul-comm, mul-left-comm}
 use native.Mathlib.Omega.{arith}
 use Rattle.rounding.specs.Fraction.{Fraction, whole, _over_, _⊖_, _⊗_, _⊘_, _≈_}
@@ -58,7 +58,7 @@ module _ {s f c : ℕ} (h : MovingSample s f c) where
   abbrev p̂ : Fraction
   p̂ = c over 255
 
-  -- the paper's α and ᾱ, its p̃ of case (I), and its q̃ and p̃ of case (III)
+  -- the paper's ᾱ, and its q̃ of case (III)
   abbrev ᾱ : Fraction
   ᾱ = (whole 3 ⊖ f̂) ⊘ (whole 3 ⊖ l̂)
 

@@ -13,7 +13,7 @@ use Rattle.pixel.specs.Accuracy.{factor₁, factor₂, factorBy, factor}
 use Rattle.pixel.specs.Inner.{AtMostWhite, Moving, MovingSample}
 use Rattle.pixel.specs.Lines.{upFrom, downFrom, naikMurthyLine, yangLeeLine, lineOf, distance, fraction, exactly, onLine, MovesFollowLines, FactorsAreFractions, ExactOnLine, PaperFollowsLines}
 use Rattle.pixel.specs.Move.{InRange, Channel.red, Channel.green, Channel.blue, intensity, naikMurthy, yangLee, byMethod, movedSample}
-use Rattle.pixel.specs.Paper.{Exact, Exact.up, Exact.down, paper₁, paper₂, paperI, paperIII, paperBy, paper}
+use Rattle.pixel.specs.Paper.{Exact, paper₁, paper₂, paperI, paperIII, paperBy, paper}
 use Rattle.pixel.specs.declared.Direction.{Direction}
 use Rattle.pixel.specs.declared.Direction.the-variants.{Up, Down}
 use Rattle.pixel.specs.declared.Line.{Line}
@@ -57,7 +57,7 @@ record Follows (s f : ℕ) (line : Line) (move : ℕ → ℕ) (k : Fraction) (fo
   factors : k ≡ fraction line
   exact : (c : ℕ) → MovingSample s f c → ExactOnLine line c (formula c)
 
--- the distances from s − 510 of a bright pixel
+-- the distances of a bright pixel's samples from s − 510
 bright-total : (r g b s : ℕ) → r + g + b ≡ s → 510 < s → s < 765 → r ≤ 255 → g ≤ 255 → b ≤ 255
     → r - (s - 510) + (g - (s - 510)) + (b - (s - 510)) ≡ 2 * (765 - s)
 bright-total r g b s e bright white hr hg hb = omega arith
@@ -160,7 +160,10 @@ module _ {s f : ℕ} (h : Moving s f) where
       (λ c m. refl)
       (λ c m. case-ii m)))
 
-  followsI : s ≤ 255 → Follows s f (yangLeeLine s f) (λ c. yangLee s f c) (factor₂ s f) (λ c. paper₂ l̂ f̂ (c over 255))
+  abbrev Follows₂ : Type 0
+  Follows₂ = Follows s f (yangLeeLine s f) (λ c. yangLee s f c) (factor₂ s f) (λ c. paper₂ l̂ f̂ (c over 255))
+
+  followsI : s ≤ 255 → Follows₂
   unfolding yangLeeLine yangLee factor₂ paper₂ paperI
   followsI dark =
       simp (le-leb s 255 dark, le-leb (s * 1) 255 (omega arith))
@@ -174,12 +177,12 @@ module _ {s f : ℕ} (h : Moving s f) where
       (λ c m. ap (λ (n : ℕ). 255 - near n (2 * s)) (mul-comm (765 - f) (s - c)))
       (λ c m. case-I-ii m))))
 
-  followsII : 255 < s → s ≤ 510 → Follows s f (yangLeeLine s f) (λ c. yangLee s f c) (factor₂ s f) (λ c. paper₂ l̂ f̂ (c over 255))
+  followsII : 255 < s → s ≤ 510 → Follows₂
   unfolding yangLeeLine yangLee factor₂ paper₂
   followsII middle low =
       simp (lt-leb s 255 middle, lt-leb (s * 1) 255 (omega arith), le-leb s 510 low, le-leb (s * 1) 510 (omega arith)) follows₁
 
-  followsIII : 510 < s → Follows s f (yangLeeLine s f) (λ c. yangLee s f c) (factor₂ s f) (λ c. paper₂ l̂ f̂ (c over 255))
+  followsIII : 510 < s → Follows₂
   unfolding yangLeeLine yangLee factor₂ paper₂ paperIII
   followsIII bright =
       simp (lt-leb s 255 (omega arith), lt-leb (s * 1) 255 (omega arith), lt-leb s 510 bright, lt-leb (s * 1) 510 (omega arith))
@@ -200,7 +203,7 @@ module _ {s f : ℕ} (h : Moving s f) where
   follows-by NaikMurthy = follows₁
   follows-by YangLee = either s 255 followsI (λ middle. either s 510 (followsII middle) followsIII)
 
-  -- black and white are neither
+  -- the pixels are neither black nor white, which each definition has apart
   follows : (m : Method) → Follows s f (lineOf m s f) (λ c. movedSample m s f c) (factor m s f) (λ c. paper m l̂ f̂ (c over 255))
   unfolding movedSample factor paper
   follows m =
@@ -219,7 +222,7 @@ moving m = record { target = m .inside .target; notBlack = m .notBlack; notWhite
 pub line-facts : (m : Method) {s f : ℕ} → Moving s f → LineFacts s f (lineOf m s f)
 line-facts m h = follows h m .facts
 
--- what the product of a distance and the numerator asks, and what it rounds to
+-- what is known of a sample, and that its distance times the fraction rounds to a sample
 module _ (m : Method) {s f c : ℕ} (h : MovingSample s f c) where
   abbrev line : Line
   line = lineOf m s f

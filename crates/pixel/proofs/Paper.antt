@@ -1,11 +1,11 @@
 -- A moved sample rounds the exact one of source 004: both lie on one line, and it is shown once, over a fraction and a direction.
 use mathlib.Core.Path.{_≡_, refl, sym, ap, subst₂, _∙_}
-use Prim.Native.Nat.{ℕ, _+_, _-_, _*_, _<_, _≤_}
+use Prim.Native.Nat.{ℕ, _+_, _-_, _*_, _≤_}
 use native.Mathlib.Nat.{one-mul, add-mul, mul-assoc, mul-comm, mul-le-mul-right, le-of-mul-le-mul-left}
 use native.Mathlib.Omega.{arith}
 use borrow.Author.Tests.{le-leb, lt-leb, eq-eqb, ne-eqb}
 use Rattle.rounding.specs.Near.{near, NearestHalfUp, NearestHalfDown}
-use Rattle.rounding.specs.Fraction.{Fraction, whole, _over_, _⊗_, _≼_, _≈_, nearest}
+use Rattle.rounding.specs.Fraction.{Fraction, whole, _over_, _⊗_, _≈_, nearest}
 use Rattle.rounding.proofs.Laws.{near-same, near-window}
 use Rattle.tables.proofs.Cases.{either}
 use Rattle.pixel.specs.Inner.{AtMostWhite, PixelSample, MovingSample}
@@ -57,10 +57,10 @@ module _ {x n d : ℕ} (small : AtMostWhite x n d) (e : Fraction) (same : (x * n
   rounded-from : (way : Direction) → RoundedFrom (exactly way e) (counted way (near (x * n) d))
   rounded-from Up = record { rounds = rounds-as; half = half-step; inCube = omega (arith, at-most-one) }
   rounded-from Down =
-      let whole : 255 - near (x * n) d + near (x * n) d ≡ 255 = omega (arith, at-most-255 small) in
+      let both : 255 - near (x * n) d + near (x * n) d ≡ 255 = omega (arith, at-most-255 small) in
       record {
         rounds = omega (arith, rounds-as);
-        half = counted-down _ (near (x * n) d) (e .num) (e .den) whole at-most-one half-step;
+        half = counted-down _ (near (x * n) d) (e .num) (e .den) both at-most-one half-step;
         inCube = omega (arith, at-most-one);
       }
 

@@ -39,10 +39,10 @@ factor m s f = cond (eqb s 0) (1 over 1) (cond (eqb s 765) (1 over 1) (factorBy 
 pub record Tolerance : Type 0 where
   -- the difference of two channels: less than so many full steps
   pub steps : ℕ
-  -- the sum of the three, the intensity: at most so far
+  -- the intensity, the demand's "sum": at most so far
   pub sum : Fraction
 
--- Demand 3's: "less than a full step", and "at most one".
+-- Demand 3's own: "give or take less than a full step", and "at most one from the curve's entry".
 abbrev pub mission : Tolerance
 mission = record { steps = 1; sum = whole 1 }
 
@@ -70,7 +70,7 @@ pub record PixelAccurate (t : Tolerance) (k target : Fraction) (p q : Pixel) : T
   -- the channels keep their order and, times the factor, their differences
   pub channels : KeepsDifferences (t .steps) k p q
 
--- The rule on the sum is for intensities 1 to 764, and for 0 and 765 with their own targets.
+-- The rule on the intensity is for 1 to 764, and for 0 and 765 with their own targets.
 pub record OwnEnds (p : Pixel) (f : ℕ) : Type 0 where
   pub black : intensity p ≡ 0 → f ≡ 0
   pub white : intensity p ≡ 765 → f ≡ 765

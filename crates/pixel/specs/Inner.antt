@@ -1,4 +1,4 @@
--- What the inner functions of this crate require; their callers show it. No outside call's contract cites these.
+-- What the functions of this crate that no customer calls require; their callers show it. No outside call's contract cites these.
 use Prim.Native.Nat.{ℕ, _+_, _*_, _<_, _≤_}
 
 -- x × n / d is at most 255, and so is n / d; d is one of document 01's divisors.

@@ -76,11 +76,11 @@ abbrev pub WithinHalf : ℕ → Exact → Type 0
 WithinHalf n (up x) = NearestHalfUp n (codeValue (up x) .num) (codeValue (up x) .den)
 WithinHalf n (down x) = NearestHalfDown n (codeValue (down x) .num) (codeValue (down x) .den)
 
--- So it is for each sample of q, written for p with the target f.
+-- Each sample of q, written for p with the target f, is at most half a step from the exact one.
 abbrev pub SamplesWithinHalf : Method → ℕ → Pixel → Pixel → Type 0
 SamplesWithinHalf m f p q = (a : Channel) → WithinHalf (sample q a) (exactSample m p f a)
 
--- Claim: so it is for every moved pixel. Proved: proofs/Paper.antt, `moves-are-within-half`.
+-- Claim: each sample of a moved pixel is at most half a step from the exact one. Proved: proofs/Paper.antt, `moves-are-within-half`.
 abbrev pub MovesAreWithinHalf : Type 0
 MovesAreWithinHalf = (m : Method) (p : Pixel) (f : ℕ) → InRange p → f ≤ 765 → SamplesWithinHalf m f p (moved m p f)
 
@@ -89,13 +89,13 @@ abbrev pub InCube : Exact → Type 0
 InCube (up x) = x ≼ whole 1
 InCube (down x) = x ≼ whole 1
 
--- Claim: so it is for every pixel and target. Proved: proofs/Paper.antt, `paper-stays-in-the-cube`.
+-- Claim: every exact sample lies from 0 to 1. Proved: proofs/Paper.antt, `paper-stays-in-the-cube`.
 abbrev pub PaperStaysInTheCube : Type 0
 PaperStaysInTheCube =
     (m : Method) (p : Pixel) (f : ℕ) (a : Channel) → InRange p → f ≤ 765
     → InCube (exactSample m p f a)
 
--- No divisor of the formulas above is 0, and none of their other subtractions is cut off at 0.
+-- The formulas above are exact: none of their divisors is 0, and none of their other subtractions is cut off at 0.
 pub record NothingCutOff (l f p : Fraction) : Type 0 where
   -- the divisors l and 3 − l
   pub notBlack : 0 < l .num
@@ -109,7 +109,7 @@ pub record NothingCutOff (l f p : Fraction) : Type 0 where
   pub caseIII : (whole 1 ⊖ p) ⊘ (whole 3 ⊖ l) ≼ whole 1
   pub caseIII-ii : whole 1 ⊖ (whole 1 ⊖ p) ⊘ (whole 3 ⊖ l) ≼ whole 1
 
--- Claim: so it is for every pixel that is neither black nor white. Proved: proofs/Paper.antt, `formulas-are-exact`.
+-- Claim: the formulas are exact for every pixel that is neither black nor white. Proved: proofs/Paper.antt, `formulas-are-exact`.
 abbrev pub FormulasAreExact : Type 0
 FormulasAreExact =
     (p : Pixel) (f : ℕ) (a : Channel) → InRange p → f ≤ 765 → 0 < intensity p → intensity p < 765

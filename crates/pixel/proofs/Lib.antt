@@ -2,7 +2,6 @@ pub mod Numbers
 pub mod Channels
 pub mod Formulas
 pub mod Lines
-pub mod Cases
 pub mod Accurate
 pub mod Paper
 pub mod Strips

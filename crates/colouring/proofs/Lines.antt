@@ -9,7 +9,7 @@ use Rattle.pixel.specs.declared.Method.{Method}
 use Rattle.pixel.proofs.Channels.{inside}
 use Rattle.pixel.proofs.Strips.{pixels-in-range, intensity-in-range}
 use Rattle.curve.specs.Curve.{EntriesInRange}
-use Rattle.lines.specs.Line.{onLine, lineAt, LinesOf}
+use Rattle.lines.specs.Line.{sampleAt, lineAt, LinesOf}
 use Rattle.lines.specs.declared.FixedLine.{FixedLine}
 use Rattle.colouring.specs.Colouring.{colouredStrip}
 use Rattle.colouring.specs.Inner.{alongLines}
@@ -23,6 +23,6 @@ lines-colour method curve lines source right range bytes =
     let small = pixels-in-range source bytes p among in
     let s = intensity p in
     let le = intensity-in-range p small in
-    let same : (a : Channel) → onLine (lineAt lines s) (sample p a) ≡ movedSample method s (at curve s) (sample p a) =
+    let same : (a : Channel) → sampleAt (lineAt lines s) (sample p a) ≡ movedSample method s (at curve s) (sample p a) =
     λ a. right s le (sample p a) (inside p (at curve s) small (range s le) a) in
     λ i. record { r = same red i; g = same green i; b = same blue i })

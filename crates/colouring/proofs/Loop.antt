@@ -9,7 +9,7 @@ use Rattle.pixel.specs.Move.{intensity, eachSample}
 use Rattle.pixel.specs.Strip.{bytesOf, pixelFrom}
 use Rattle.pixel.specs.declared.Pixel.{Pixel}
 use Rattle.pixel.proofs.Strips.{whole-means, drop-three}
-use Rattle.lines.specs.Line.{onLine, lineAt}
+use Rattle.lines.specs.Line.{sampleAt, lineAt}
 use Rattle.lines.specs.declared.FixedLine.{FixedLine}
 use Rattle.writing.specs.Inner.{WrittenFrom}
 use Rattle.writing.proofs.Stores.{written-before}
@@ -18,7 +18,7 @@ use Rattle.colouring.proofs.EachPixel.{each-pixel-from, each-pixel-leng
 
 -- a pixel, moved along the line of s
 abbrev along : List FixedLine → ℕ → Pixel → Pixel
-along lines s = eachSample (onLine (lineAt lines s))
+along lines s = eachSample (sampleAt (lineAt lines s))
 
 -- moved along the line of its intensity
 abbrev change : List FixedLine → Pixel → Pixel

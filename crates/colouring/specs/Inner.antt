@@ -6,7 +6,7 @@ use Prim.Native.Nat.{ℕ}
 use lib.ListN.{length}
 use Rattle.pixel.specs.Move.{intensity, eachSample}
 use Rattle.pixel.specs.Strip.{isWhole}
-use Rattle.lines.specs.Line.{onLine, lineAt}
+use Rattle.lines.specs.Line.{sampleAt, lineAt}
 use Rattle.lines.specs.declared.FixedLine.{FixedLine}
 use Rattle.colouring.specs.Colouring.{eachPixel}
 
@@ -17,4 +17,4 @@ pub record SameSize (source destination : List ℕ) : Type 0 where
 
 -- A strip with each pixel moved along the line of its intensity.
 abbrev pub alongLines : List FixedLine → List ℕ → List ℕ
-alongLines lines = eachPixel (λ p. eachSample (onLine (lineAt lines (intensity p))) p)
+alongLines lines = eachPixel (λ p. eachSample (sampleAt (lineAt lines (intensity p))) p)

@@ -7,13 +7,13 @@ use borrow.Author.Tests.{le-leb, lt-leb, eq-eqb, ne-eqb}
 use Rattle.rounding.specs.Fraction.{Fraction, whole, _over_, _⊕_, _⊗_, _≈_}
 use Rattle.tables.proofs.Cases.{either}
 use Rattle.pixel.specs.Accuracy.{factor₁, factor₂, factorBy, factor}
-use Rattle.pixel.specs.Inner.{AtMostWhite, MovingSample}
+use Rattle.pixel.specs.Inner.{MovingSample}
 use Rattle.pixel.specs.Move.{Channel, sample, intensity}
-use Rattle.pixel.specs.Paper.{Exact, Exact.is, Exact.oneMinus, paper₁, paper₂, paperI, paperIII, paperBy, paper, codeValue}
+use Rattle.pixel.specs.Paper.{Exact, Exact.up, Exact.down, paper₁, paper₂, paperI, paperIII, paperBy, paper, codeValue}
 use Rattle.pixel.specs.declared.Method.{Method}
 use Rattle.pixel.specs.declared.Method.the-variants.{NaikMurthy, YangLee}
 use Rattle.pixel.specs.declared.Pixel.{Pixel}
-use Rattle.pixel.proofs.Cases.{case-ii, case-I-ii, case-III-ii}
+use Rattle.pixel.proofs.Cases.{AtMostWhite, case-ii, case-I-ii, case-III-ii}
 use Rattle.pixel.proofs.Channels.{inside, black-samples, white-samples}
 use Rattle.pixel.proofs.Strips.{intensity-in-range}
 use Rattle.pixel.proofs.Paper.{Is255Times, at-most-one, same-i, same-ii, same-I-i, same-I-ii, same-III-i, same-III-ii}
@@ -50,7 +50,7 @@ differ {k} on on' =
     (mul-pos D positive, mul-pos E positive, products _ _ _ _ (on .v) (on' .v) (k .num) _ _ (k .den) ex ey (omega (arith, on .line, on' .line)))
 
 -- document 01's fraction, and 255 less it, as values of the paper's sample
-value-is : {n d : ℕ} {e : Fraction} → Is255Times n d e → codeValue (is e) ≈ n over d
+value-is : {n d : ℕ} {e : Fraction} → Is255Times n d e → codeValue (up e) ≈ n over d
 value-is t = (t .same .1, t .same .0, sym (t .same .2))
 
 complement : (N D n d : ℕ) → N ≤ D → n ≤ 255 * d → n * (1 * D) ≡ 255 * N * d
@@ -63,12 +63,12 @@ complement N D n d le small same =
     let whole-n : n * (1 * D) ≡ n * D = ap (λ (t : ℕ). n * t) (one-mul D) in
     omega (arith, mul-assoc 255 (D - N) d, mul-assoc 255 N d, mul-assoc 255 d D, mul-comm d D)
 
-value-one-minus : {x n d : ℕ} → AtMostWhite x n d → {e : Fraction} → Is255Times (x * n) d e → codeValue (oneMinus e) ≈ (255 * d - x * n) over d
+value-one-minus : {x n d : ℕ} → AtMostWhite x n d → {e : Fraction} → Is255Times (x * n) d e → codeValue (down e) ≈ (255 * d - x * n) over d
 value-one-minus {x} {n} {d} fits {e} t =
     (omega (arith, t .same .1), fits .positive, complement (e .num) (e .den) (x * n) d (at-most-one fits t) (fits .small) (t .same .2))
 
 -- towards black: the numerator is the weight times n, and the weight is the sample less k
-black-line : (n d k c w : ℕ) {x : ℕ} {e : Fraction} → Is255Times x d e → x ≡ w * n → w + k ≡ c → OnLine (n over d) (k * n) 0 c (is e)
+black-line : (n d k c w : ℕ) {x : ℕ} {e : Fraction} → Is255Times x d e → x ≡ w * n → w + k ≡ c → OnLine (n over d) (k * n) 0 c (up e)
 black-line n d k c w {x} t product less = record {
   v = x;
   value = value-is t;
@@ -77,7 +77,7 @@ black-line n d k c w {x} t product less = record {
 
 -- towards white: the weight is k less the sample
 white-line : (n d k c w : ℕ) {x y : ℕ} {e : Fraction} → AtMostWhite x y d → Is255Times (x * y) d e → x * y ≡ w * n → w + c ≡ k
-    → OnLine (n over d) (k * n) (255 * d) c (oneMinus e)
+    → OnLine (n over d) (k * n) (255 * d) c (down e)
 white-line n d k c w {x} {y} fits t product less = record {
   v = 255 * d - x * y;
   value = value-one-minus fits t;
@@ -176,7 +176,7 @@ module _ (s f : ℕ) where
   line-by YangLee = line₂
 
 -- black and white stay, and their samples are equal
-flat : (x c c' : ℕ) → c ≡ c' → codeValue (is (whole x)) ⊕ (1 over 1) ⊗ whole c' ≈ codeValue (is (whole x)) ⊕ (1 over 1) ⊗ whole c
+flat : (x c c' : ℕ) → c ≡ c' → codeValue (up (whole x)) ⊕ (1 over 1) ⊗ whole c' ≈ codeValue (up (whole x)) ⊕ (1 over 1) ⊗ whole c
 flat x c c' same = (omega arith, omega arith, omega (arith, same))
 
 pub paper-keeps-differences : PaperKeepsDifferences

@@ -1,13 +1,16 @@
--- The lines by which a strip is coloured. All pixels of one intensity go to one target, and then a written sample is a line in the
--- sample read, rounded: its slope is document 01's fraction, held by one division.
+-- The lines by which a strip is coloured, in fixed point. All pixels of one intensity go to one target along one line; its fraction is held once,
+-- by one division, and each sample is then a multiplication and an addition.
 use mathlib.Core.List.{List}
 use mathlib.Core.Path.{_≡_}
 use Prim.Native.Nat.{ℕ, _+_, _-_, _*_, _/_, _%_, _^_, _≤_, _<_}
 use lib.ListN.{getD}
 use Rattle.rounding.specs.Slope.{slope}
 use Rattle.tables.specs.Table.{at}
-use Rattle.pixel.specs.Inner.{PixelSample, MovingSample}
+use Rattle.pixel.specs.Inner.{PixelSample}
 use Rattle.pixel.specs.Move.{movedSample}
+use Rattle.pixel.specs.declared.Direction.{Direction}
+use Rattle.pixel.specs.declared.Direction.the-variants.{Up, Down}
+use Rattle.pixel.specs.declared.Line.{Line}
 use Rattle.pixel.specs.declared.Method.{Method}
 use Rattle.lines.specs.declared.FixedLine.{FixedLine}
 
@@ -19,46 +22,37 @@ half = 2 ^ 23
 abbrev pub partsAt : FixedLine → ℕ → ℕ
 partsAt line c = (c * line .slope + line .offset) % 2 ^ 32
 
--- The sample on the line at c: its whole steps.
-abbrev pub onLine : FixedLine → ℕ → ℕ
-onLine line c = partsAt line c / (2 * half)
+-- The sample of the line at c: its whole steps.
+abbrev pub sampleAt : FixedLine → ℕ → ℕ
+sampleAt line c = partsAt line c / (2 * half)
 
--- The line of slope n / d that has so many parts at the sample `from`. The offset is negative as a rule, and is held in 32 bits.
+-- The line of slope n / d that has so many parts at the sample `start`. The offset is negative as a rule, and is held in 32 bits.
 abbrev pub lineFrom : ℕ → ℕ → ℕ → ℕ → FixedLine
-lineFrom n d from parts =
+lineFrom start n d parts =
     record {
       slope = slope half n d;
-      offset = (2 ^ 40 + parts - from * slope half n d) % 2 ^ 32;
+      offset = (2 ^ 40 + parts - start * slope half n d) % 2 ^ 32;
     }
 
--- Up from black: near(x × n / d) at the sample x above `from`.
-abbrev pub upFrom : ℕ → ℕ → ℕ → FixedLine
-upFrom n d from = lineFrom n d from half
+-- The parts at a line's start: half a step up from black, or half a step below the last part of 256 steps.
+abbrev pub startParts : Direction → ℕ
+startParts Up = half
+startParts Down = 2 ^ 32 - 1 - half
 
--- Down from white: 255 − near(x × n / d) at the sample x below `from`.
-abbrev pub downTo : ℕ → ℕ → ℕ → FixedLine
-downTo n d from = lineFrom n d from (2 ^ 32 - 1 - half)
+-- A line of a pixel's samples, in fixed point.
+abbrev pub inFixedPoint : Line → FixedLine
+inFixedPoint line = lineFrom (line .start) (line .numerator) (line .denominator) (startParts (line .direction))
 
--- What these require: d is one of document 01's divisors, and n / d at most 255.
-pub record Slopes (n d from : ℕ) : Type 0 where
+-- What these require: d is one of document 01's divisors, n / d at most 255, and the start a sample.
+pub record Holdable (start n d : ℕ) : Type 0 where
   pub positive : 0 < d
   pub divisor : d ≤ 1530
   pub steep : n ≤ 255 * d
-  pub byte : from ≤ 255
-
--- The pixel of intensity s is neither black nor white, and f is a target.
-pub record Moving (s f : ℕ) : Type 0 where
-  pub target : f ≤ 765
-  pub notBlack : 0 < s
-  pub notWhite : s < 765
-
--- Along the line the samples of these pixels move as said.
-abbrev pub Along : (ℕ → ℕ) → ℕ → ℕ → FixedLine → Type 0
-Along to s f line = (c : ℕ) → MovingSample s f c → onLine line c ≡ to c
+  pub byte : start ≤ 255
 
 -- The line of the pixels of intensity s, black and white among them, moved to f.
 abbrev pub IsLineOf : Method → ℕ → ℕ → FixedLine → Type 0
-IsLineOf method s f line = (c : ℕ) → PixelSample s f c → onLine line c ≡ movedSample method s f c
+IsLineOf method s f line = (c : ℕ) → PixelSample s f c → sampleAt line c ≡ movedSample method s f c
 
 -- The table of lines at s.
 abbrev pub lineAt : List FixedLine → ℕ → FixedLine

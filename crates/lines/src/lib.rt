@@ -2,9 +2,10 @@
 // on one line: making it takes at most one division, and a sample on it none.
 ghost use mathlib.Core.Path.{_≡_};
 ghost use Prim.Native.Nat.{_^_, _<_, _≤_};
-ghost use Rattle.pixel.specs.Move.{naikMurthy, yangLee, byMethod};
 ghost use Rattle.curve.specs.Curve.{EntriesInRange};
-ghost use Rattle.lines.specs.Line.{partsAt, onLine, lineFrom, upFrom, downTo, Slopes, Moving, Along, IsLineOf, LinesOf};
+ghost use Rattle.lines.specs.Line.{partsAt, sampleAt, lineFrom, inFixedPoint, Holdable, IsLineOf, LinesOf};
+use pixel::Direction;
+use pixel::Line;
 use pixel::Method;
 
 // A line has so many parts to a step of a sample, 2^24: a power of two, so that the division is a shift.
@@ -37,104 +38,47 @@ pub fn parts_at(line: FixedLine, c: u8) -> u32
 }
 
 // The sample on the line at c: its whole steps.
-pub fn on_line(line: FixedLine, c: u8) -> u8
-    ensures { λ r. ⌜ r ≡ onLine line c ⌝ }
+pub fn sample_at(line: FixedLine, c: u8) -> u8
+    ensures { λ r. ⌜ r ≡ sampleAt line c ⌝ }
 {
     (parts_at(line, c) / STEP) as u8
 }
 
-// The line of slope n / d that has so many parts at the sample `from`.
-fn line_from(n: u64, d: u64, from: u64, parts: u64) -> FixedLine
-    requires { ⌜ Slopes n d from × (parts < 2 ^ 32) ⌝ }
-    ensures { λ r. ⌜ r ≡ lineFrom n d from parts ⌝ }
+// The line of slope n / d that has so many parts at the sample `start`.
+fn line_from(start: u64, n: u64, d: u64, parts: u64) -> FixedLine
+    requires { ⌜ Holdable start n d × (parts < 2 ^ 32) ⌝ }
+    ensures { λ r. ⌜ r ≡ lineFrom start n d parts ⌝ }
 {
     // One part more than the whole ones, so that no multiple falls short.
     let slope = n * (STEP as u64) / d + 1;
     // The offset is negative as a rule; whole periods are added, so that nothing is cut off.
-    let offset = (PERIODS + parts - from * slope) % PERIOD;
+    let offset = (PERIODS + parts - start * slope) % PERIOD;
     FixedLine {
         slope: slope as u32,
         offset: offset as u32,
     }
 }
 
-// Up from black: near(x × n / d) at the sample x above `from`.
-fn up_from(n: u64, d: u64, from: u64) -> FixedLine
-    requires { ⌜ Slopes n d from ⌝ }
-    ensures { λ r. ⌜ r ≡ upFrom n d from ⌝ }
+// A line of a pixel's samples in fixed point. Up from black it starts half a step up, so that whole steps are rounded to the nearest; down
+// from white, half a step below the last part.
+fn in_fixed_point(line: Line) -> FixedLine
+    requires { ⌜ Holdable (line .start) (line .numerator) (line .denominator) ⌝ }
+    ensures { λ r. ⌜ r ≡ inFixedPoint line ⌝ }
 {
-    line_from(n, d, from, HALF)
-}
-
-// Down from white: 255 − near(x × n / d) at the sample x below `from`.
-fn down_to(n: u64, d: u64, from: u64) -> FixedLine
-    requires { ⌜ Slopes n d from ⌝ }
-    ensures { λ r. ⌜ r ≡ downTo n d from ⌝ }
-{
-    line_from(n, d, from, LAST_PART - HALF)
-}
-
-// Method 1: the line of the pixels of intensity s, moved to the target f.
-fn naik_murthy(s: u64, f: u64) -> FixedLine
-    requires { ⌜ Moving s f ⌝ }
-    ensures { λ r. ⌜ Along (naikMurthy s f) s f r ⌝ }
-{
-    if f <= s {
-        return up_from(f, s, 0);
-    }
-    down_to(765 - f, 765 - s, 255)
-}
-
-// Method 2 for dark pixels, s at most 255.
-fn yang_lee_dark(s: u64, f: u64) -> FixedLine
-    requires { ⌜ Moving s f × (s ≤ 255) ⌝ }
-    ensures { λ r. ⌜ Along (yangLee s f) s f r ⌝ }
-{
-    if f <= 255 {
-        return up_from(f, s, 0);
-    }
-    down_to(765 - f, 2 * s, s)
-}
-
-// Method 2 for bright pixels, s above 510.
-fn yang_lee_bright(s: u64, f: u64) -> FixedLine
-    requires { ⌜ Moving s f × (510 < s) ⌝ }
-    ensures { λ r. ⌜ Along (yangLee s f) s f r ⌝ }
-{
-    let t = 765 - s;
-    if f <= 510 {
-        return up_from(f, 2 * t, s - 510);
-    }
-    down_to(765 - f, t, 255)
-}
-
-// Method 2.
-fn yang_lee(s: u64, f: u64) -> FixedLine
-    requires { ⌜ Moving s f ⌝ }
-    ensures { λ r. ⌜ Along (yangLee s f) s f r ⌝ }
-{
-    if s <= 255 {
-        return yang_lee_dark(s, f);
-    }
-    if s <= 510 {
-        return naik_murthy(s, f);
-    }
-    yang_lee_bright(s, f)
-}
-
-// The line of pixels that are neither black nor white.
-fn by_method(method: Method, s: u64, f: u64) -> FixedLine
-    requires { ⌜ Moving s f ⌝ }
-    ensures { λ r. ⌜ Along (byMethod method s f) s f r ⌝ }
-{
-    match method {
-        Method::NaikMurthy => naik_murthy(s, f),
-        Method::YangLee => yang_lee(s, f),
+    let direction = line.direction;
+    match direction {
+        Direction::Up => line_from(line.start, line.numerator, line.denominator, HALF),
+        Direction::Down => line_from(
+            line.start,
+            line.numerator,
+            line.denominator,
+            LAST_PART - HALF,
+        ),
     }
 }
 
 // The line of the pixels of intensity s. Black and white stay: their lines are level.
-fn line_of(method: Method, s: u64, f: u64) -> FixedLine
+fn fixed_line_of(method: Method, s: u64, f: u64) -> FixedLine
     requires { ⌜ (s ≤ 765) × (f ≤ 765) ⌝ }
     ensures { λ r. ⌜ IsLineOf method s f r ⌝ }
 {
@@ -150,7 +94,7 @@ fn line_of(method: Method, s: u64, f: u64) -> FixedLine
             offset: WHITE,
         };
     }
-    by_method(method, s, f)
+    in_fixed_point(pixel::line_of(method, s, f))
 }
 
 // The line of every intensity.
@@ -165,7 +109,7 @@ pub fn lines_of(curve: &[u16; 766], method: Method) -> [FixedLine; 766]
     let mut lines = [none; 766];
     let mut s: usize = 0;
     while s < 766 {
-        lines[s] = line_of(method, s as u64, curve[s] as u64);
+        lines[s] = fixed_line_of(method, s as u64, curve[s] as u64);
         s += 1;
     }
     lines

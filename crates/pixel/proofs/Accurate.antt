@@ -10,14 +10,14 @@ use Rattle.rounding.specs.Near.{near}
 use Rattle.rounding.specs.Fraction.{Fraction, _over_}
 use Rattle.rounding.proofs.Laws.{near-le, near-mono, near-sum, near-difference, WithinOne}
 use Rattle.tables.proofs.Cases.{either}
-use Rattle.pixel.specs.Inner.{AtMostWhite, MovingSample}
+use Rattle.pixel.specs.Inner.{MovingSample}
 use Rattle.pixel.specs.Move.{Channel, Channel.red, Channel.green, Channel.blue, sample, InRange, intensity, naikMurthy, yangLee, byMethod, movedSample, moved, eachSample}
 use Rattle.pixel.specs.Accuracy.{factor₁, factor₂, factorBy, factor, PixelAccurate, MovesAreAccurate, EndsStay}
 use Rattle.pixel.specs.declared.Pixel.{Pixel}
 use Rattle.pixel.specs.declared.Method.{Method}
 use Rattle.pixel.specs.declared.Method.the-variants.{NaikMurthy, YangLee}
 use Rattle.pixel.proofs.Channels.{sample-each, each-same, inside, black-samples, white-samples}
-use Rattle.pixel.proofs.Cases.{case-i, case-ii, case-I-i, case-I-ii, case-III-i, case-III-ii, naikMurthy-i, naikMurthy-ii, yangLee-I-i, yangLee-I-ii, yangLee-II, yangLee-III-i, yangLee-III-ii}
+use Rattle.pixel.proofs.Cases.{AtMostWhite, case-i, case-ii, case-I-i, case-I-ii, case-III-i, case-III-ii, naikMurthy-i, naikMurthy-ii, yangLee-I-i, yangLee-I-ii, yangLee-II, yangLee-III-i, yangLee-III-ii}
 
 -- A line takes the sample c to near(numerator c / d), or to 255 less that. The numerator is the sample's weight times n, and the
 -- weights of the three samples add up to d.

@@ -8,7 +8,13 @@ use borrow.Author.Tests.{le-leb, lt-leb}
 use Rattle.rounding.specs.Near.{near}
 use Rattle.rounding.proofs.Laws.{near-le}
 use Rattle.pixel.specs.Move.{naikMurthy, yangLee}
-use Rattle.pixel.specs.Inner.{AtMostWhite, MovingSample}
+use Rattle.pixel.specs.Inner.{MovingSample}
+
+-- x × n / d is at most 255, over one of document 01's divisors
+pub record AtMostWhite (x n d : ℕ) : Type 0 where
+  pub positive : 0 < d
+  pub divisor : d ≤ 1530
+  pub small : x * n ≤ 255 * d
 
 pub at-most-255 : {x n d : ℕ} → AtMostWhite x n d → near (x * n) d ≤ 255
 at-most-255 {x} {n} {d} h = near-le d (h .positive) (x * n) 255 (h .small)

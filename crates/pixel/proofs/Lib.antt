@@ -1,5 +1,7 @@
 pub mod Numbers
 pub mod Channels
+pub mod Formulas
+pub mod Lines
 pub mod Cases
 pub mod Accurate
 pub mod Paper

@@ -3,19 +3,18 @@ use mathlib.Core.Path.{_≡_, refl, sym, ap, ap₂, subst, subst⁻¹, subst₂,
 use Prim.Native.Nat.{ℕ, _+_, _-_, _*_, _<_, _≤_}
 use native.Mathlib.Nat.{mul-one, one-mul, add-mul, mul-assoc, mul-comm, mul-left-comm, mul-le-mul-right, le-of-mul-le-mul-left}
 use native.Mathlib.Omega.{arith}
-use lib.Dec.{T, le→leb}
 use borrow.Author.Tests.{le-leb, lt-leb, eq-eqb, ne-eqb}
 use Rattle.rounding.specs.Near.{near, NearestHalfUp, NearestHalfDown}
 use Rattle.rounding.specs.Fraction.{Fraction, whole, _over_, _⊖_, _⊗_, _⊘_, _≼_, _≈_, nearest}
 use Rattle.rounding.proofs.Laws.{near-same, near-window}
 use Rattle.tables.proofs.Cases.{either}
-use Rattle.pixel.specs.Inner.{AtMostWhite, PixelSample, MovingSample}
+use Rattle.pixel.specs.Inner.{PixelSample, MovingSample}
 use Rattle.pixel.specs.Move.{sample, intensity, naikMurthy, yangLee, byMethod, movedSample, moved}
-use Rattle.pixel.specs.Paper.{Exact, Exact.is, Exact.oneMinus, paper₁, paper₂, paperI, paperIII, paperBy, paper, Rounds, MovesRoundThePaper, WithinHalf, MovesAreWithinHalf, InCube, PaperStaysInTheCube, NothingCutOff, FormulasAreExact}
+use Rattle.pixel.specs.Paper.{Exact, Exact.up, Exact.down, paper₁, paper₂, paperI, paperIII, paperBy, paper, Rounds, MovesRoundThePaper, WithinHalf, MovesAreWithinHalf, InCube, PaperStaysInTheCube, NothingCutOff, FormulasAreExact}
 use Rattle.pixel.specs.declared.Method.{Method}
 use Rattle.pixel.specs.declared.Method.the-variants.{NaikMurthy, YangLee}
 use Rattle.pixel.proofs.Channels.{sample-each, inside}
-use Rattle.pixel.proofs.Cases.{at-most-255, case-i, case-ii, case-I-i, case-I-ii, case-III-i, case-III-ii, naikMurthy-i, naikMurthy-ii, yangLee-I-i, yangLee-I-ii, yangLee-II, yangLee-III-i, yangLee-III-ii}
+use Rattle.pixel.proofs.Cases.{AtMostWhite, at-most-255, case-i, case-ii, case-I-i, case-I-ii, case-III-i, case-III-ii, naikMurthy-i, naikMurthy-ii, yangLee-I-i, yangLee-I-ii, yangLee-II, yangLee-III-i, yangLee-III-ii}
 
 -- x/255 divided by z/255
 abbrev ratio : ℕ → ℕ → Fraction
@@ -91,16 +90,16 @@ module _ {x n d : ℕ} (fits : AtMostWhite x n d) {e : Fraction} (is255 : Is255T
       ) in
       le-of-mul-le-mul-left least (fits .positive)
 
-  in-cube : T (e ≼ whole 1)
-  in-cube = le→leb (e .num * 1) (1 * e .den) (omega (arith, at-most-one))
+  in-cube : e ≼ whole 1
+  in-cube = omega (arith, at-most-one)
 
   half-step : NearestHalfUp (near (x * n) d) (255 * e .num) (1 * e .den)
   half-step = rw rounds-as (near-window (255 * e .num) (1 * e .den) (same .1))
 
-  directly : Agrees (near (x * n) d) (is e)
+  directly : Agrees (near (x * n) d) (up e)
   directly = record { rounds = rounds-as; half = half-step; inCube = in-cube }
 
-  from-white : Agrees (255 - near (x * n) d) (oneMinus e)
+  from-white : Agrees (255 - near (x * n) d) (down e)
   from-white = record {
     rounds = omega (arith, rounds-as, at-most-255 fits);
     half = counted-down (255 - near (x * n) d) (near (x * n) d) (e .num) (e .den) (omega (arith, at-most-255 fits)) at-most-one half-step;
@@ -208,14 +207,14 @@ sample-agrees : (m : Method) (s f c : ℕ) → PixelSample s f c → Agrees (mov
 unfolding movedSample paper near
 sample-agrees m s f c h =
     either s 0
-    (λ l. simp (eq-eqb s 0 (omega arith), le-leb (s * 1) 0 (omega arith)) (record { rounds = refl; half = omega arith; inCube = tt }))
+    (λ l. simp (eq-eqb s 0 (omega arith), le-leb (s * 1) 0 (omega arith)) (record { rounds = refl; half = omega arith; inCube = omega arith }))
     (λ light.
     let light' = ne-eqb s 0 (λ z. omega arith) in
     let light'' = lt-leb (s * 1) 0 (omega arith) in
     either 765 s
     (λ l.
     simp (light', light'', eq-eqb s 765 (omega arith), le-leb 765 (s * 1) (omega arith))
-    (record { rounds = refl; half = omega arith; inCube = tt }))
+    (record { rounds = refl; half = omega arith; inCube = omega arith }))
     (λ dark.
     simp (light', light'', ne-eqb s 765 (λ z. omega arith), lt-leb 765 (s * 1) (omega arith))
     (agrees-by (record { inside = h; notBlack = light; notWhite = dark }) m)))
@@ -241,13 +240,12 @@ nothing-cut-off {s} {f} {c} h =
     record {
       notBlack = h .notBlack;
       notWhite = omega arith;
-      intensityFits = le→leb (s * 1) 765 (omega arith);
-      targetFits = le→leb (f * 1) 765 (omega arith);
-      sampleFits = le→leb (c * 1) 255 (omega arith);
-      caseI = le→leb (c * 255 * 1) (1 * (255 * s)) (omega arith);
-      caseIII = le→leb ((255 - c * 1) * 255 * 1) (1 * (255 * (765 - s * 1))) (omega arith);
-      caseIII-ii =
-          le→leb ((1 * (255 * (765 - s * 1)) - (255 - c * 1) * 255 * 1) * 1) (1 * (1 * (255 * (765 - s * 1)))) (omega arith);
+      intensityFits = (omega arith);
+      targetFits = (omega arith);
+      sampleFits = (omega arith);
+      caseI = (omega arith);
+      caseIII = (omega arith);
+      caseIII-ii = omega arith;
     }
 
 pub formulas-are-exact : FormulasAreExact

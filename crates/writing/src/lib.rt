@@ -4,7 +4,7 @@ ghost use Prim.Native.Nat.{_+_, _/_, _^_, _<_};
 ghost use lib.ListN.{length};
 ghost use Rattle.pixel.specs.Move.{eachSample};
 ghost use Rattle.pixel.specs.Strip.{bytesOf};
-ghost use Rattle.lines.specs.Line.{onLine};
+ghost use Rattle.lines.specs.Line.{sampleAt};
 ghost use Rattle.writing.specs.Inner.{WrittenFrom};
 use lines::FixedLine;
 use pixel::Pixel;
@@ -25,7 +25,7 @@ fn write_sample(parts: u32, destination: &mut [u8], i: usize)
 // afterwards.
 pub fn write_second(line: FixedLine, p: Pixel, destination: &mut [u8], i: usize)
     requires { ⌜ i + 5 < length (now destination) ⌝ }
-    ensures { λ _. ⌜ WrittenFrom (now (destination .entry)) (now (destination .exit)) i (i + 3) (bytesOf (eachSample (onLine line) p ∷ [])) ⌝ }
+    ensures { λ _. ⌜ WrittenFrom (now (destination .entry)) (now (destination .exit)) i (i + 3) (bytesOf (eachSample (sampleAt line) p ∷ [])) ⌝ }
 {
     write_sample(lines::parts_at(line, p.b), destination, i + 2);
     write_sample(lines::parts_at(line, p.g), destination, i + 1);
@@ -35,9 +35,9 @@ pub fn write_second(line: FixedLine, p: Pixel, destination: &mut [u8], i: usize)
 // Writes the pixel at byte i, moved along its line.
 pub fn write_pixel(line: FixedLine, p: Pixel, destination: &mut [u8], i: usize)
     requires { ⌜ i + 2 < length (now destination) ⌝ }
-    ensures { λ _. ⌜ WrittenFrom (now (destination .entry)) (now (destination .exit)) i i (bytesOf (eachSample (onLine line) p ∷ [])) ⌝ }
+    ensures { λ _. ⌜ WrittenFrom (now (destination .entry)) (now (destination .exit)) i i (bytesOf (eachSample (sampleAt line) p ∷ [])) ⌝ }
 {
-    destination[i + 2] = lines::on_line(line, p.b);
-    destination[i + 1] = lines::on_line(line, p.g);
-    destination[i] = lines::on_line(line, p.r);
+    destination[i + 2] = lines::sample_at(line, p.b);
+    destination[i + 1] = lines::sample_at(line, p.g);
+    destination[i] = lines::sample_at(line, p.r);
 }

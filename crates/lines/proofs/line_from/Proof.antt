@@ -1,6 +1,6 @@
 -- `lines::line_from` meets its contract.
 use native.Mathlib.Omega.{arith}
-use Rattle.lines.proofs.FixedPoint.{slope-fits, from-fits}
+use Rattle.lines.proofs.FixedPoint.{slope-fits, start-fits}
 use borrow.Author.Needs.{needs}
 use Rattle.lines.proofs.line_from.Statement.{statement}
 use Rattle.lines.proofs.line_from.Tie as tie
@@ -21,10 +21,10 @@ add-offset : tie.Need-add-offset
 add-offset c = search needs
 
 mul-offset : tie.Need-mul-offset
-mul-offset c = omega (arith, from-fits (c .pre .0))
+mul-offset c = omega (arith, start-fits (c .pre .0))
 
 sub-offset : tie.Need-sub-offset
-sub-offset c = omega (arith, from-fits (c .pre .0))
+sub-offset c = omega (arith, start-fits (c .pre .0))
 
 cast-t10 : tie.Need-cast-t10
 cast-t10 c = omega (arith, slope-fits (c .pre .0))

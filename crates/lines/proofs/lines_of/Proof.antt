@@ -18,17 +18,17 @@ abbrev μ-loop : tie.MeasureT-loop
 loop-holds : tie.Need-loop-holds Inv-loop μ-loop
 loop-holds c = filled-by-start _ _ 766 _ (search needs)
 
-mul-line-of : tie.Need-mul-line-of Inv-loop μ-loop
-mul-line-of c = search needs
+mul-fixed-line-of : tie.Need-mul-fixed-line-of Inv-loop μ-loop
+mul-fixed-line-of c = search needs
 
-element-copy-out-line-of : tie.Need-element-copy-out-line-of Inv-loop μ-loop
-element-copy-out-line-of c = search needs
+element-copy-out-fixed-line-of : tie.Need-element-copy-out-fixed-line-of Inv-loop μ-loop
+element-copy-out-fixed-line-of c = search needs
 
-cast-line-of : tie.Need-cast-line-of Inv-loop μ-loop
-cast-line-of c = fits-under _ _ 766 (suc-le-suc (c .before .before .before .pre _ (omega arith))) tt
+cast-fixed-line-of : tie.Need-cast-fixed-line-of Inv-loop μ-loop
+cast-fixed-line-of c = fits-under _ _ 766 (suc-le-suc (c .before .before .before .pre _ (omega arith))) tt
 
-line-of-requires : tie.Need-line-of-requires Inv-loop μ-loop
-line-of-requires c κs = (omega arith, c .before .before .before .pre _ (omega arith))
+fixed-line-of-requires : tie.Need-fixed-line-of-requires Inv-loop μ-loop
+fixed-line-of-requires c κs = (omega arith, c .before .before .before .pre _ (omega arith))
 
 mul-lines : tie.Need-mul-lines Inv-loop μ-loop
 mul-lines c = search needs
@@ -45,7 +45,7 @@ loop-less c = omega arith
 loop-again : tie.Need-loop-again Inv-loop μ-loop
 loop-again c =
     let here = c .before .before .before .loop in
-    filled-by-more _ _ 766 (here .lines) (here .s) (c .line-of .result) (here .inv) (omega arith) (c .line-of .ensures)
+    filled-by-more _ _ 766 (here .lines) (here .s) (c .fixed-line-of .result) (here .inv) (omega arith) (c .fixed-line-of .ensures)
 
 returns : tie.Need-returns Inv-loop μ-loop
 returns c = λ s h. c .before .loop .inv .done s (omega arith)
@@ -57,10 +57,10 @@ lines-of-spec =
     Inv-loop
     μ-loop
     loop-holds
-    mul-line-of
-    element-copy-out-line-of
-    cast-line-of
-    line-of-requires
+    mul-fixed-line-of
+    element-copy-out-fixed-line-of
+    cast-fixed-line-of
+    fixed-line-of-requires
     mul-lines
     array-set-from-lines
     add-s

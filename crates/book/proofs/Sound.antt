@@ -10,8 +10,9 @@ use lib.ListN.{length}
 use Rattle.tables.proofs.Cases.{cond-same}
 use Rattle.pixel.specs.Strip.{pixelsOf, Bytes}
 use Rattle.pixel.proofs.Strips.{length-pixels}
+use Rattle.measuring.specs.Histogram.{pixelsIn}
 use Rattle.curve.specs.Curve.{IsToneCurve}
-use Rattle.shot.specs.Shot.{opened, withStrip, measured, withCurve, fixedWith, pixelsIn, coloured}
+use Rattle.shot.specs.Shot.{opened, withStrip, measured, withCurve, fixedWith, coloured}
 use Rattle.shot.specs.declared.Shot.{Shot}
 use Rattle.shot.proofs.Holds.{Holds, holds-opened, holds-strip, curve-of-strips, holds-curve}
 use Rattle.shot.proofs.Passed.{Measurable, measure-passed, Fixable, fix-passed}

@@ -9,11 +9,11 @@ use lib.Dec.{eqb}
 use lib.ListN.{length}
 use Rattle.tables.specs.Table.{at, _among_}
 use Rattle.pixel.specs.Methods.{methodOf}
-use Rattle.curve.specs.Curve.{IsToneCurve}
-use Rattle.measuring.specs.Histogram.{countOf}
+use Rattle.curve.specs.Curve.{curveOf, IsToneCurve}
+use Rattle.measuring.specs.Histogram.{pixelsIn, countOf}
 use Rattle.colouring.specs.Written.{Written, WrittenExact, WrittenAccurate, pixelsWritten, AtMostTwoBelow}
 use Rattle.shot.specs.Reachable.{Reachable}
-use Rattle.shot.specs.Shot.{ColourRequest, pixelsIn, curveOf}
+use Rattle.shot.specs.Shot.{ColourRequest}
 use Rattle.shot.specs.declared.Shot.{Shot}
 use Rattle.book.specs.Book.{Call, Call.opening, Call.measuring, Call.fixing, Call.colouring, Book, hasCurve, expectedAnswer}
 use Rattle.book.specs.Run.{Step, number, trace, Occurs, WellFormed}

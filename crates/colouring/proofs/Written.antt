@@ -92,7 +92,7 @@ pub one-curve-keeps-order : OneCurveKeepsOrder
 one-curve-keeps-order m n curve source other tone bytes bytes' v w mv mw le =
     let first = by-curve m curve source tone bytes v mv in
     let second = by-curve n curve other tone bytes' w mw in
-    let rises = tone .rises (intensity (v .input)) (intensity (w .input)) le (second .range) in
+    let rises = tone .neverFalls (intensity (v .input)) (intensity (w .input)) le (second .range) in
     omega (arith, first .rules .sum, second .rules .sum, first .entry, second .entry)
 
 -- What a colouring leaves, whatever checks gave its number: an accepted one has passed the checks of lengths, has a tone curve where there is

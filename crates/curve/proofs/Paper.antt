@@ -8,7 +8,7 @@ use Rattle.rounding.specs.Fraction.{Fraction, whole, _over_, _⊗_, _≼_, _≺
 use Rattle.targets.specs.Cube.{G, cube}
 use Rattle.targets.specs.Paper.{area}
 use Rattle.targets.proofs.Laws.{targets-are-right}
-use Rattle.curve.specs.Curve.{shareOf, wholeOf, cubeEntry, equalisedEntry, byChoice, entry}
+use Rattle.curve.specs.Curve.{shareCount, fullCount, cubeEntry, equalisedEntry, byChoice, entry}
 use Rattle.curve.specs.Nearest.{distance}
 use Rattle.curve.specs.Paper.{apart, equation5, equation14, EntriesAreThePapers}
 use Rattle.curve.specs.declared.Choice.{Choice}
@@ -96,7 +96,7 @@ equation14-times n h k le = apart-times (n-times n (area-times k le)) (top-times
 
 -- between the ends the entry for s is made from N and H(s)
 entry-is : (choice : Choice) (N : ℕ) (H : ℕ → ℕ) (s : ℕ) → 0 < s → s < 765 → byChoice choice N (H s) ≡ entry choice N H s
-unfolding entry shareOf wholeOf
+unfolding entry shareCount fullCount
 entry-is choice N H s h l = sym (ends-inner (λ s. byChoice choice N (H s)) s h l)
 
 -- equation 5 is document 01's fraction

@@ -7,7 +7,7 @@ use Rattle.rounding.specs.Near.{near}
 use Rattle.tables.specs.Table.{tabulate}
 use Rattle.tables.proofs.Laws.{tabulate-same}
 use Rattle.targets.specs.Cube.{G}
-use Rattle.curve.specs.Curve.{shareOf, wholeOf, cubeEntry, equalisedEntry, byChoice, withEnds, entry, toneCurve}
+use Rattle.curve.specs.Curve.{shareCount, fullCount, cubeEntry, equalisedEntry, byChoice, withEnds, entry, toneCurve}
 use Rattle.curve.specs.Nearest.{nearer, nearestPlace}
 use Rattle.curve.specs.declared.Choice.{Choice}
 use Rattle.curve.specs.declared.Choice.the-variants.{Cube, Equalised}
@@ -44,7 +44,7 @@ levels-are e = refl
 
 -- the curve, by each choice
 pub two-pixel-curve : (choice : Choice) → toneCurve choice 2 (countUpTo twoPixels) ≡ threeLevels (middle choice)
-unfolding toneCurve entry withEnds shareOf wholeOf
+unfolding toneCurve entry withEnds shareCount fullCount
 two-pixel-curve choice =
     tabulate-same (entry choice 2 (countUpTo twoPixels)) (withEnds (λ s. level (middle choice) (countUpTo twoPixels s))) 766
     (λ s _. rw (level-is choice (countUpTo twoPixels s) (count-le (λ i. leb i s) twoPixels)))

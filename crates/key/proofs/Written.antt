@@ -23,7 +23,7 @@ use Rattle.book.specs.Accuracy.{requested, entries}
 use Rattle.book.specs.Book.{Call, Call.opening, Call.measuring, Call.fixing, Call.colouring}
 use Rattle.book.specs.Run.{number, WellFormed}
 use Rattle.book.proofs.Accuracy.{accuracy, step-brings}
-use Rattle.host.specs.CurveBytes.{curveEntries}
+use Rattle.curve_bytes.specs.CurveBytes.{curveEntries}
 use Rattle.host.specs.Host.{colourOutcome}
 use Rattle.host.proofs.Accuracy.{host-accurate}
 use Rattle.still.specs.Agreement.{callsOf}
@@ -82,10 +82,10 @@ pub host-keeps-widths : HostKeepsWidths
 host-keeps-widths c bytes w m =
     let accurate = host-accurate .colourings c bytes in
     let from = from-bytes (colourOutcome c .number) (methodOf (c .method)) (curveEntries (c .curve)) (c .source) (colourOutcome c .bytes)
-    (λ e. accurate .shape e .range)
+    (λ e. host-accurate .shapes c e .range)
     bytes w m in
     written-widths w from (accurate .exact w m) (accurate .rules w m)
 
 pub files-keep-widths : FilesKeepWidths
-files-keep-widths file bytes legal destination same =
-    calls-keep-widths (callsOf (fileSamples file) destination) (well-formed file legal bytes destination same)
+files-keep-widths file bytes accepted destination same =
+    calls-keep-widths (callsOf (fileSamples file) destination) (well-formed file accepted bytes destination same)

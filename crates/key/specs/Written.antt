@@ -12,7 +12,7 @@ use Rattle.book.specs.Run.{Step, trace, Occurs, WellFormed}
 use Rattle.host.specs.Accuracy.{written as writtenByHost}
 use Rattle.host.specs.Host.{ColourCall}
 use Rattle.still.specs.Agreement.{callsOf}
-use Rattle.still.specs.Still.{fileSamples, Legal}
+use Rattle.still.specs.Still.{fileSamples, IsAccepted}
 use Rattle.key.specs.Widths.{KeyWidths}
 
 -- The pixel keeps the widths, by its own method and the curve's entry for its intensity.
@@ -29,10 +29,10 @@ CallsKeepWidths =
 abbrev pub HostKeepsWidths : Type 0
 HostKeepsWidths = (c : ColourCall) → Bytes (c .source) → (w : Written) → w among writtenByHost c → WrittenWidths w
 
--- Claim: every pixel written for a legal file, whose pixels are those of a list of calls (`FilesFollowShots`), keeps them. Proved:
+-- Claim: every pixel written for an accepted file, whose pixels are those of a list of calls (`FilesFollowShots`), keeps them. Proved:
 -- proofs/Written.antt, `files-keep-widths`.
 abbrev pub FilesKeepWidths : Type 0
 FilesKeepWidths =
-    (file : List ℕ) → Bytes file → Legal file → (destination : List ℕ) → length destination ≡ length (fileSamples file)
+    (file : List ℕ) → Bytes file → IsAccepted file → (destination : List ℕ) → length destination ≡ length (fileSamples file)
     → (before : List Step) (t : Step) → Occurs (trace (callsOf (fileSamples file) destination)) before t
     → (w : Written) → w among writtenInStep t → WrittenWidths w

@@ -8,8 +8,9 @@ use Rattle.refusal.specs.Refusal.{firstOf}
 use Rattle.refusal.proofs.Laws.{none-applies}
 use Rattle.pixel.specs.Methods.{isMethod}
 use Rattle.pixel.specs.Strip.{isWhole}
+use Rattle.measuring.specs.Histogram.{pixelLimit}
 use Rattle.curve.specs.Choices.{isChoice}
-use Rattle.shot.specs.Shot.{pixelLimit, measureChecks, fixChecks, colourChecks}
+use Rattle.shot.specs.Shot.{measureChecks, fixChecks, colourChecks}
 
 pub record Measurable (fixed : Bool) (pixels strip : ℕ) : Type 0 where
   pub unfixed : fixed ≡ false

@@ -7,15 +7,16 @@ use native.Mathlib.Omega.{arith}
 use lib.Dec.{eqb}
 use lib.ListN.{length}
 use Rattle.pixel.specs.Strip.{Bytes}
+use Rattle.measuring.specs.Histogram.{pixelLimit}
 use Rattle.measuring.specs.Inner.{CountsFit}
 use Rattle.measuring.proofs.Counts.{count-le}
 use Rattle.curve.specs.Inner.{HistogramOf}
 use Rattle.curve.specs.Curve.{EntriesInRange}
+use Rattle.curve.proofs.Histogram.{tally-is-histogram}
 use Rattle.shot.specs.Reachable.{Reachable, Reachable.byOpening, Reachable.byMeasuring, Reachable.byFixing}
-use Rattle.shot.specs.Shot.{pixelLimit, opened, measured, fixedWith, ColourRequest, Outcome, coloured}
+use Rattle.shot.specs.Shot.{opened, measured, fixedWith, ColourRequest, Outcome, coloured}
 use Rattle.shot.specs.declared.Shot.{Shot}
 use Rattle.shot.specs.declared.Answer.{Answer}
-use Rattle.shot.proofs.Counts.{cumulative-counts, pixels-cumulative}
 use Rattle.shot.proofs.Holds.{reachable-holds}
 use Rattle.shot.proofs.Passed.{Measurable}
 
@@ -37,14 +38,8 @@ module _ {x : Shot} (r : Reachable x) where
   pub histogram-of : 0 < x .pixels → HistogramOf (x .pixels) (x .counts)
   histogram-of positive =
       let (ps, h) = reachable-holds r in
-      record {
-        all =
-            cumulative-counts (x .counts) ps (h .counts) 765 (omega arith)
-            ∙ pixels-cumulative ps (h .counted) .last
-            ∙ sym (h .pixels);
-        some = positive;
-        most = omega (arith, h .limit);
-      }
+      subst (λ (n : ℕ). HistogramOf n (x .counts)) (sym (h .pixels))
+      (tally-is-histogram (x .counts) ps (h .counts) (h .counted) (omega (arith, h .pixels)) (omega (arith, h .pixels, h .limit)))
 
   -- a fixed shot's curve has no entry above 765
   pub entries-in-range : x .fixed ≡ true → EntriesInRange (x .curve)

@@ -1,15 +1,10 @@
 // A shot: opened empty, measured strip by strip, fixed once, and then used to colour strips (document 01, "The ground covered").
 ghost use mathlib.Core.Path.{_≡_};
-ghost use mathlib.Core.List.{[], _∷_};
 ghost use Prim.Native.Nat.{_≤_};
-ghost use lib.ListN.{length};
 ghost use Rattle.refusal.specs.Refusal.{firstOf};
-ghost use Rattle.shot.specs.Inner.{WholeShot};
+ghost use Rattle.measuring.specs.Histogram.{pixelLimit};
 ghost use Rattle.shot.specs.Reachable.{Reachable};
-ghost use Rattle.shot.specs.Shot.{pixelLimit, opened, measureRefusals, measureChecks, measured, fixRefusals, fixChecks, fixedWith, curveOf, colourRefusals, colourChecks, coloured};
-
-// At most so many pixels to a shot.
-pub const PIXEL_LIMIT: usize = 16777216;
+ghost use Rattle.shot.specs.Shot.{opened, measureRefusals, measureChecks, measured, fixRefusals, fixChecks, fixedWith, colourRefusals, colourChecks, coloured};
 
 // A shot's state: how many of its pixels have each intensity, how many they are, and, once it is fixed, its tone curve. Nothing
 // reads the curve of a shot that is not fixed. The counts stay after fixing.
@@ -48,7 +43,7 @@ fn measure_number(fixed: bool, pixels: u32, strip: usize) -> u32
     ensures { λ r. ⌜ r ≡ firstOf (measureChecks fixed pixels strip) ⌝ }
 {
     // the room left is compared, so that no sum can overflow
-    let room = PIXEL_LIMIT - (pixels as usize);
+    let room = measuring::PIXEL_LIMIT - (pixels as usize);
     measure_refusal(fixed, strip % 3 == 0, room < strip / 3)
 }
 
@@ -175,18 +170,4 @@ impl Shot {
         }
         Answer { shot: self, number }
     }
-}
-
-// The tone curve of a strip taken as a whole shot: for the host's calls, which keep no shot. No outside call: it requires what
-// measuring and fixing check, so neither is refused.
-pub fn whole_shot_curve(strip: &[u8], choice: u32) -> [u16; 766]
-    requires { ⌜ WholeShot (length (now strip)) choice ⌝ }
-    ensures { λ r. ⌜ r ≡ curveOf choice (now (strip .entry) ∷ []) ⌝ }
-{
-    let opened = Shot::open();
-    let measured = opened.measure(strip);
-    let shot = measured.shot;
-    let fixed = shot.fix(choice);
-    let shot = fixed.shot;
-    shot.curve
 }

@@ -6,7 +6,7 @@ use borrow.Author.Needs.{needs}
 use borrow.Author.Tests.{lt-ltb, le-ltb}
 use lib.Dec.{ltb}
 use Rattle.tables.proofs.Cases.{either}
-use Rattle.shot.specs.Shot.{pixelLimit}
+use Rattle.measuring.specs.Histogram.{pixelLimit}
 use Rattle.shot.proofs.measure_number.Statement.{statement}
 use Rattle.shot.proofs.measure_number.Tie as tie
 

@@ -5,7 +5,7 @@ use mathlib.Core.List.{List}
 use Prim.Native.Nat.{ℕ}
 use borrow.Author.Needs.{needs}
 use Rattle.curve.specs.Curve.{toneCurve}
-use Rattle.curve.specs.Histogram.{cumulative}
+use Rattle.measuring.specs.Histogram.{cumulative}
 use Rattle.curve.specs.declared.Choice.{Choice}
 use Rattle.shot.specs.Shot.{fixedWith}
 use Rattle.shot.proofs.Answers.{answer-refused, answer-accepted}

@@ -1,10 +1,10 @@
--- `host::keeps_curve_rule` meets its contract.
+-- `curve_bytes::keeps_curve_rule` meets its contract.
 use mathlib.Core.Path.{sym, _∙_}
 use Rattle.tables.proofs.Cases.{cannot}
-use Rattle.host.proofs.CurveBytes.{curve-sound, order-decides}
+use Rattle.curve_bytes.proofs.CurveBytes.{curve-sound, order-decides}
 use borrow.Author.Needs.{needs}
-use Rattle.host.proofs.keeps_curve_rule.Statement.{statement}
-use Rattle.host.proofs.keeps_curve_rule.Tie as tie
+use Rattle.curve_bytes.proofs.keeps_curve_rule.Statement.{statement}
+use Rattle.curve_bytes.proofs.keeps_curve_rule.Tie as tie
 
 array-read-if1 : tie.Need-array-read-if1
 array-read-if1 c = search needs

@@ -1,15 +1,15 @@
--- `host::write_curve` meets its contract.
+-- `curve_bytes::write_curve` meets its contract.
 use mathlib.Core.Path.{_≡_, sym, subst, _∙_}
 use Prim.Native.Nat.{_+_, _*_, _-_}
 use native.Mathlib.Omega.{arith}
 use lib.ListN.{length, length-set}
 use Rattle.tables.specs.Table.{at}
 use Rattle.tables.proofs.Filling.{Filled, filled-start, filled-more, filled-copy}
-use Rattle.host.specs.CurveBytes.{curveBytes}
-use Rattle.host.proofs.CurveBytes.{length-bytes, low-at, high-at}
+use Rattle.curve_bytes.specs.CurveBytes.{curveBytes}
+use Rattle.curve_bytes.proofs.CurveBytes.{length-bytes, low-at, high-at}
 use borrow.Author.Needs.{needs}
-use Rattle.host.proofs.write_curve.Statement.{statement}
-use Rattle.host.proofs.write_curve.Tie as tie
+use Rattle.curve_bytes.proofs.write_curve.Statement.{statement}
+use Rattle.curve_bytes.proofs.write_curve.Tie as tie
 
 abbrev Inv-loop : tie.InvT-loop
 Inv-loop bytes₀ curve k₀ bytes k = (length curve ≡ 766) × Filled (at (curveBytes curve)) 1532 bytes (2 * k)

@@ -1,15 +1,15 @@
--- `host::read_curve` meets its contract.
+-- `curve_bytes::read_curve` meets its contract.
 use mathlib.Core.Path.{_≡_, refl, sym, _∙_}
 use Prim.Native.Nat.{_-_}
 use native.Mathlib.Omega.{arith}
 use lib.ListN.{length}
 use Rattle.tables.specs.Table.{at}
 use Rattle.tables.proofs.Filling.{Filled, filled-start, filled-more, filled-copy}
-use Rattle.host.specs.CurveBytes.{curveEntries}
-use Rattle.host.proofs.CurveBytes.{length-entries, entry-at}
+use Rattle.curve_bytes.specs.CurveBytes.{curveEntries}
+use Rattle.curve_bytes.proofs.CurveBytes.{length-entries, entry-at}
 use borrow.Author.Needs.{needs}
-use Rattle.host.proofs.read_curve.Statement.{statement}
-use Rattle.host.proofs.read_curve.Tie as tie
+use Rattle.curve_bytes.proofs.read_curve.Statement.{statement}
+use Rattle.curve_bytes.proofs.read_curve.Tie as tie
 
 abbrev Inv-loop : tie.InvT-loop
 Inv-loop bytes curve₀ k₀ curve k = (length bytes ≡ 1532) × Filled (at (curveEntries bytes)) 766 curve k

@@ -1,14 +1,14 @@
--- `host::none_falls` meets its contract.
+-- `curve_bytes::none_falls` meets its contract.
 use mathlib.Core.Path.{_≡_, sym}
 use Prim.Native.Nat.{_+_, _-_, _≤_}
 use native.Mathlib.Omega.{arith}
 use lib.ListN.{length}
 use Rattle.tables.proofs.Cases.{cannot}
-use Rattle.host.specs.CurveBytes.{noneFalls}
-use Rattle.host.proofs.CurveBytes.{Rises, rises-one, rises-more, falls-sound, falls-complete}
+use Rattle.curve_bytes.specs.CurveBytes.{noneFalls}
+use Rattle.curve_bytes.proofs.CurveBytes.{Rises, rises-one, rises-more, falls-sound, falls-complete}
 use borrow.Author.Needs.{needs}
-use Rattle.host.proofs.none_falls.Statement.{statement}
-use Rattle.host.proofs.none_falls.Tie as tie
+use Rattle.curve_bytes.proofs.none_falls.Statement.{statement}
+use Rattle.curve_bytes.proofs.none_falls.Tie as tie
 
 abbrev Inv-loop : tie.InvT-loop
 Inv-loop curve k₀ k = (k ≤ 765) × (length curve ≡ 766) × Rises curve (k + 1)

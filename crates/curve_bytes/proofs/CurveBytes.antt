@@ -12,7 +12,7 @@ use Rattle.tables.specs.Table.{at}
 use Rattle.tables.proofs.Cases.{both, either}
 use Rattle.pixel.specs.Strip.{Bytes}
 use Rattle.curve.specs.Curve.{IsToneCurve}
-use Rattle.host.specs.CurveBytes.{curveBytes, curveEntries, noneExceeds, noneFalls, keepsCurveRule, TestIsTheRule, CurvesTravel}
+use Rattle.curve_bytes.specs.CurveBytes.{curveBytes, curveEntries, noneExceeds, noneFalls, keepsCurveRule, TestIsTheRule, CurvesTravel}
 
 -- Two bytes an entry.
 pub length-bytes : (curve : List ℕ) → length (curveBytes curve) ≡ 2 * length curve
@@ -157,7 +157,7 @@ curve-sound curve size e =
       black = eqb-true (at curve 0) 0 black;
       white = eqb-true (at curve 765) 765 white;
       range = λ s h. exceeds-sound curve range s (omega arith);
-      rises = λ s t le h. falls-sound 0 curve rises .1 s t le (omega arith);
+      neverFalls = λ s t le h. falls-sound 0 curve rises .1 s t le (omega arith);
     }
 
 -- where both ends are right, the entries' order alone decides
@@ -177,7 +177,7 @@ curve-complete curve h =
       eq-eqb (at curve 0) 0 (h .black),
       eq-eqb (at curve 765) 765 (h .white),
       exceeds-complete curve (λ k l. h .range k (omega arith)),
-      falls-complete 0 curve (λ k l. omega arith, λ s t le l. h .rises s t le (omega arith)),
+      falls-complete 0 curve (λ k l. omega arith, λ s t le l. h .neverFalls s t le (omega arith)),
     ) refl
 
 pub test-is-the-rule : TestIsTheRule

@@ -23,7 +23,7 @@ use Rattle.shot.specs.Reachable.{Reachable, Reachable.byOpening, Reachab
 use Rattle.shot.specs.Shot.{pixelLimit, opened, withStrip, measured, withCurve, fixedWith, pixelsIn, curveOf}
 use Rattle.shot.specs.declared.Shot.{Shot}
 use Rattle.shot.proofs.Counts.{Counted, cumulative-counts, pixels-cumulative}
-use Rattle.shot.proofs.Passed.{Measurable, measure-passed, fix-passed}
+use Rattle.shot.proofs.Passed.{MeasuringAccepted, measure-passed, fix-passed}
 
 pub record Holds (x : Shot) (ps : List Pixel) : Type 0 where
   pub size : length (x .counts) ≡ 766
@@ -47,7 +47,7 @@ holds-opened = record {
 
 -- an accepted strip's pixels join those held
 pub holds-strip : {x : Shot} {ps : List Pixel} → Holds x ps → (strip : List ℕ) → Bytes strip
-    → Measurable (x .fixed) (x .pixels) (length strip) → Holds (withStrip x strip) (ps ++ pixelsOf strip)
+    → MeasuringAccepted x strip → Holds (withStrip x strip) (ps ++ pixelsOf strip)
 unfolding withPixels
 holds-strip {x} {ps} h strip bytes ok = record {
   size = length-tabulate (λ s. at (x .counts) s + countOf (pixelsOf strip) s) 766;
@@ -96,10 +96,10 @@ reachable-holds byOpening = ([], holds-opened)
 reachable-holds (byMeasuring {x} r strip bytes) =
     let (ps, h) = reachable-holds r in
     either-leaves _ (withStrip x strip) x (λ (y : Shot). (qs : List Pixel) × Holds y qs)
-    (λ e. (ps ++ pixelsOf strip, holds-strip h strip bytes (measure-passed (x .fixed) (x .pixels) (length strip) e)))
+    (λ e. (ps ++ pixelsOf strip, holds-strip h strip bytes (measure-passed x strip e)))
     (ps, h)
 reachable-holds (byFixing {x} r choice) =
     let (ps, h) = reachable-holds r in
     either-leaves _ (withCurve x choice) x (λ (y : Shot). (qs : List Pixel) × Holds y qs)
-    (λ e. (ps, holds-curve h choice (fix-passed (x .fixed) choice (x .pixels) e .some)))
+    (λ e. (ps, holds-curve h choice (fix-passed x choice e .some)))
     (ps, h)

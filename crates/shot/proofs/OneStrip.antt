@@ -46,7 +46,7 @@ module _ (strip : List ℕ) (bytes : Bytes strip) (choice : ℕ) (ok : WholeShot
   unfolding measured opened
   held =
       subst (Holds (withStrip opened strip)) (sym (append-nil (pixelsOf strip)))
-      (holds-strip holds-opened strip bytes (measure-passed false 0 (length strip) strip-accepted))
+      (holds-strip holds-opened strip bytes (measure-passed opened strip strip-accepted))
 
   -- fixing accepts that
   some-pixels : 0 < withStrip opened strip .pixels

@@ -17,7 +17,7 @@ use Rattle.shot.specs.declared.Shot.{Shot}
 use Rattle.shot.specs.declared.Answer.{Answer}
 use Rattle.shot.proofs.Counts.{cumulative-counts, pixels-cumulative}
 use Rattle.shot.proofs.Holds.{reachable-holds}
-use Rattle.shot.proofs.Passed.{Measurable}
+use Rattle.shot.proofs.Passed.{MeasuringAccepted}
 
 module _ {x : Shot} (r : Reachable x) where
   -- a shot's pixels are within the limit
@@ -25,7 +25,7 @@ module _ {x : Shot} (r : Reachable x) where
   within-limit = reachable-holds r .1 .limit
 
   -- the counts can take an accepted strip
-  pub counts-fit : (strip : List ℕ) → Measurable (x .fixed) (x .pixels) (length strip) → CountsFit (x .counts) strip
+  pub counts-fit : (strip : List ℕ) → MeasuringAccepted x strip → CountsFit (x .counts) strip
   counts-fit strip ok =
       let (ps, h) = reachable-holds r in
       record {

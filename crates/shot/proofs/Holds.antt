@@ -33,6 +33,14 @@ pub record Holds (x : Shot) (ps : List Pixel) : Type 0 where
   pub counted : Counted ps
   pub curve : x .fixed ≡ true → IsToneCurve (x .curve)
 
+-- the counts up to an intensity add up to the pixels of at most it
+pub up-to-of-held : {x : Shot} {ps : List Pixel} → Holds x ps → (s : ℕ) → s ≤ 765 → cumulative (x .counts) s ≡ countUpTo ps s
+up-to-of-held {x} {ps} h = cumulative-counts (x .counts) ps (h .counts)
+
+-- and at 765 that is all of them
+pub last-of-held : {x : Shot} {ps : List Pixel} → Holds x ps → countUpTo ps 765 ≡ x .pixels
+last-of-held {x} {ps} h = pixels-cumulative ps (h .counted) .last ∙ sym (h .pixels)
+
 -- an opened shot holds none
 pub holds-opened : Holds opened []
 unfolding opened
@@ -68,7 +76,7 @@ holds-strip {x} {ps} h strip bytes ok = record {
 curve-of-held : {x : Shot} {ps : List Pixel} → Holds x ps → (choice : ℕ)
     → withCurve x choice .curve ≡ toneCurve (choiceOf choice) (length ps) (countUpTo ps)
 curve-of-held {x} {ps} h choice =
-    tone-curve-same (choiceOf choice) (x .pixels) (cumulative (x .counts)) (countUpTo ps) (cumulative-counts (x .counts) ps (h .counts))
+    tone-curve-same (choiceOf choice) (x .pixels) (cumulative (x .counts)) (countUpTo ps) (up-to-of-held h)
     ∙ ap (λ (n : ℕ). toneCurve (choiceOf choice) n (countUpTo ps)) (h .pixels)
 
 pub curve-of-strips : {x : Shot} (strips : List (List ℕ)) → Holds x (pixelsIn strips) → (choice : ℕ)

@@ -5,7 +5,6 @@ use mathlib.Core.List.{List}
 use Prim.Native.Nat.{ℕ, _≤_, _<_}
 use native.Mathlib.Omega.{arith}
 use lib.Dec.{eqb}
-use lib.ListN.{length}
 use Rattle.pixel.specs.Strip.{Bytes}
 use Rattle.measuring.specs.Inner.{CountsFit}
 use Rattle.measuring.proofs.Counts.{count-le}
@@ -15,8 +14,7 @@ use Rattle.shot.specs.Reachable.{Reachable, Reachable.byOpening, Reachab
 use Rattle.shot.specs.Shot.{pixelLimit, opened, measured, fixedWith, ColourRequest, Outcome, coloured}
 use Rattle.shot.specs.declared.Shot.{Shot}
 use Rattle.shot.specs.declared.Answer.{Answer}
-use Rattle.shot.proofs.Counts.{cumulative-counts, pixels-cumulative}
-use Rattle.shot.proofs.Holds.{reachable-holds}
+use Rattle.shot.proofs.Holds.{up-to-of-held, last-of-held, reachable-holds}
 use Rattle.shot.proofs.Passed.{MeasuringAccepted}
 
 module _ {x : Shot} (r : Reachable x) where
@@ -38,10 +36,7 @@ module _ {x : Shot} (r : Reachable x) where
   histogram-of positive =
       let (ps, h) = reachable-holds r in
       record {
-        all =
-            cumulative-counts (x .counts) ps (h .counts) 765 (omega arith)
-            ∙ pixels-cumulative ps (h .counted) .last
-            ∙ sym (h .pixels);
+        all = up-to-of-held h 765 (omega arith) ∙ last-of-held h;
         some = positive;
         most = omega (arith, h .limit);
       }

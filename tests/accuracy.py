@@ -198,7 +198,9 @@ def has(file, line):
 def claim_faults(lines):
     """What is wrong with the document's table of claims and proofs."""
     start = lines.index(PROVED) + 2 if PROVED in lines else len(lines)
-    rows = [line for line in lines[start : lines.index("", start)]] if start < len(lines) else []
+    rows = lines[start : lines.index("", start)] if start < len(lines) else []
+    if not rows:
+        yield f"{DOC} has no table {PROVED}"
     proofs = set()
     for row in rows:
         found = NAMED.fullmatch(row)

@@ -1,11 +1,12 @@
 """The cases for `balance`: a name, the sentence or boundary of document 01 that it shows, the input, and the output by hand.
 
-    cases.py    writes the folder cases/ from this table: NAME.ppm, the input, and NAME.out, the output
+    cases.py FOLDER    writes them there, to look at: NAME.ppm, the input, and NAME.out, the output
 
 The output is written by hand for every refusal and for the header's cases, which all carry the reference picture. Where a picture
-has none by hand, exact_file.py alone says what it is. Inputs too large for the folder are made where they are used.
+has none by hand, exact_file.py says what it is, and PICTURES holds its digest. Every input is made here but those of by_tools/.
 """
 
+import hashlib
 import pathlib
 import random
 import sys
@@ -13,9 +14,14 @@ from typing import NamedTuple, Optional
 
 from exact_file import answer
 
-FOLDER = pathlib.Path(__file__).resolve().parent / "cases"
-LARGEST_COMMITTED = 4096
+BY_TOOLS = pathlib.Path(__file__).resolve().parent / "by_tools"
 SEED = 20170101
+# how many cases there are, and how many of them have the output by hand; so that none is lost unseen
+CASES, BY_HAND = 297, 277
+
+
+def digest(data):
+    return hashlib.sha256(data).hexdigest()[:16]
 
 
 class Case(NamedTuple):
@@ -23,19 +29,6 @@ class Case(NamedTuple):
     shows: str
     file: bytes
     by_hand: Optional[bytes]
-    by_tool: bool = False
-
-    @property
-    def committed(self):
-        return len(self.file) <= LARGEST_COMMITTED
-
-    @property
-    def input_path(self):
-        return FOLDER / f"{self.name}.ppm"
-
-    @property
-    def output_path(self):
-        return FOLDER / f"{self.name}.out"
 
 
 HEADER = b"P6\n2 1\n255\n"
@@ -345,25 +338,55 @@ def large():
 
 
 def tools():
-    """Files that Netpbm's and ImageMagick's own programs wrote; cases/TOOLS.md has the commands."""
+    """Files that Netpbm's and ImageMagick's own programs wrote, with their digests; by_tools/TOOLS.md has the commands."""
     taken = "a tool's file in the form that document 01 takes"
-    for name, shows, number in (
-        ("netpbm_ramp", taken, None),
-        ("netpbm_gingham", taken, None),
-        ("netpbm_camouflage_scaled", taken, None),
-        ("netpbm_65535", "13: the largest sample value is not 255", 13),
-        ("netpbm_15", "13: the largest sample value is not 255", 13),
-        ("netpbm_plain", "Header: the letters P6", 12),
-        ("netpbm_grey", "Header: the letters P6", 12),
-        ("netpbm_two_images", "16: bytes after the samples", 16),
-        ("imagemagick_rose", taken, None),
-        ("imagemagick_gradient", taken, None),
-        ("imagemagick_16_bits", "13: the largest sample value is not 255", 13),
-        ("imagemagick_comment", "Comments are not read", 12),
-        ("imagemagick_two_images", "16: bytes after the samples", 16),
+    for name, due, shows, number in (
+        ("netpbm_ramp", "76ea2d722ac31936", taken, None),
+        ("netpbm_gingham", "e979303d1984f3c9", taken, None),
+        ("netpbm_camouflage_scaled", "044ec476a561abbe", taken, None),
+        ("netpbm_65535", "823642b74ad440c3", "13: the largest sample value is not 255", 13),
+        ("netpbm_15", "5a132d4d1f34bcaa", "13: the largest sample value is not 255", 13),
+        ("netpbm_plain", "ee25334f612242b5", "Header: the letters P6", 12),
+        ("netpbm_grey", "80078279dee3ee67", "Header: the letters P6", 12),
+        ("netpbm_two_images", "d095ab6fce82e698", "16: bytes after the samples", 16),
+        ("imagemagick_rose", "0ef4f0a1e76fe682", taken, None),
+        ("imagemagick_gradient", "5ac2410c7e593885", taken, None),
+        ("imagemagick_16_bits", "59272de2a492765d", "13: the largest sample value is not 255", 13),
+        ("imagemagick_comment", "f1c5a1b03c67fad8", "Comments are not read", 12),
+        ("imagemagick_two_images", "d095ab6fce82e698", "16: bytes after the samples", 16),
     ):
-        file = (FOLDER / f"{name}.ppm").read_bytes()
-        yield Case(name, shows, file, None if number is None else b"refused %d\n" % number, by_tool=True)
+        path = BY_TOOLS / f"{name}.ppm"
+        if not path.is_file():
+            sys.exit(f"cases.py: by_tools/{path.name} is missing")
+        file = path.read_bytes()
+        if digest(file) != due:
+            sys.exit(f"cases.py: by_tools/{path.name} is not as the tool wrote it")
+        yield Case(name, shows, file, None if number is None else b"refused %d\n" % number)
+
+
+# the outputs of the pictures that have none by hand, by their digests
+PICTURES = {
+    "grey_ramp": "36209c40292d401e",
+    "primaries": "6483c0859083412a",
+    "random": "cfbd418fdd447fa9",
+    "random_tall": "7ce0ad827b0e2a23",
+    "random_dark": "f0a55b57004b3bdd",
+    "random_middle": "7d3c509551d0791c",
+    "random_bright": "ac474262f5cbddb5",
+    "random_row": "b1a95558046eae56",
+    "random_column": "a144bc293c7b5ade",
+    "random_saturated": "7d159c178c40efc3",
+    "full_16384_by_1": "34d7967b962a83b2",
+    "full_1_by_16384": "505ef614dd5bac9e",
+    "full_128_by_128": "f9365740615ab146",
+    "full_127_by_129": "e544fb1ba6e14431",
+    "longest": "f9365740615ab146",
+    "netpbm_ramp": "54f1f61f886165d7",
+    "netpbm_gingham": "700e06b0083cf3e7",
+    "netpbm_camouflage_scaled": "fd3f59efb88b3630",
+    "imagemagick_rose": "dd24ff65fcfddd8b",
+    "imagemagick_gradient": "e7e601f45c6ac29b",
+}
 
 
 def table():
@@ -380,20 +403,13 @@ def table():
 
 
 def main():
-    """Writes the folder; TOOLS.md and what the tools wrote stay."""
-    kept = {FOLDER / "TOOLS.md"}
+    if len(sys.argv) != 2:
+        sys.exit(__doc__)
+    folder = pathlib.Path(sys.argv[1])
+    folder.mkdir(parents=True, exist_ok=True)
     for case in table():
-        if not case.committed:
-            continue
-        written = answer(case.file)
-        if case.by_hand not in (None, written):
-            sys.exit(f"cases.py: {case.name}: by hand {case.by_hand!r}, by exact_file.py {written!r}")
-        if not case.by_tool:
-            case.input_path.write_bytes(case.file)
-        case.output_path.write_bytes(written)
-        kept |= {case.input_path, case.output_path}
-    for path in set(FOLDER.iterdir()) - kept:
-        path.unlink()
+        (folder / f"{case.name}.ppm").write_bytes(case.file)
+        (folder / f"{case.name}.out").write_bytes(answer(case.file) if case.by_hand is None else case.by_hand)
 
 
 if __name__ == "__main__":

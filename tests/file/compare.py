@@ -18,7 +18,7 @@ import tempfile
 import time
 
 import exact_file
-from cases import FOLDER, HEADER, SAMPLES, WHITE, table
+from cases import BY_HAND, BY_TOOLS, CASES, HEADER, PICTURES, SAMPLES, WHITE, digest, table
 
 SAMPLES_FOLDER = pathlib.Path(__file__).resolve().parents[2] / "samples"
 DEFAULT_SEED = 20170101
@@ -67,35 +67,34 @@ def expect(case, command, expected, **stdin):
     judge(case, expected, done.returncode, done.stdout, done.stderr)
 
 
-def folder(cases):
-    """cases/ holds the table's cases and nothing else; each output is exact_file's, and the one by hand."""
-    there = {path.name for path in FOLDER.iterdir()}
-    due = {"TOOLS.md"}
-    for case in cases:
-        if not case.committed:
-            continue
-        due |= {case.input_path.name, case.output_path.name}
-        for path, content in (case.input_path, case.file), (case.output_path, answer(case.file)):
-            if path.is_file() and path.read_bytes() != content:
-                fault(path.name, f"{difference(content, path.read_bytes())}; cases.py writes the folder")
-    for name in sorted(due - there):
-        fault(name, "is not in the folder")
-    for name in sorted(there - due):
-        fault(name, "is in the folder and not in the table")
+def by_hand(cases):
+    return sum(case.by_hand is not None for case in cases)
+
+
+def agreement(cases):
+    """The table is whole, and exact_file.py says of each case what is by hand, or what the digest is of."""
+    if (len(cases), by_hand(cases)) != (CASES, BY_HAND):
+        fault("the table", f"has {len(cases)} cases, {by_hand(cases)} by hand; cases.py says {CASES} and {BY_HAND}")
     for case in cases:
         written = answer(case.file)
-        if case.by_hand is None and written in REFUSALS:
-            fault(case.name, f"should be taken, and exact_file.py has {written!r}")
+        if case.by_hand is None and digest(written) != PICTURES.get(case.name):
+            fault(case.name, f"exact_file.py has {shown(written)}, and PICTURES the digest of something else")
         if case.by_hand not in (None, written):
             fault(case.name, f"by hand and by exact_file.py: {difference(case.by_hand, written)}")
-    print(f"file: folder: {len(there)} files")
+    names = {case.name for case in cases}
+    pictures = {case.name for case in cases if case.by_hand is None}
+    for name in sorted(PICTURES.keys() - pictures):
+        fault(name, "has a digest, and is no case without an output by hand")
+    for path in sorted(BY_TOOLS.iterdir()):
+        if path.name != "TOOLS.md" and (path.suffix != ".ppm" or path.stem not in names):
+            fault(path.name, "is in by_tools/ and not in the table")
 
 
 def each_case(cases):
     for case in cases:
-        expected = case.output_path.read_bytes() if case.committed else answer(case.file)
+        expected = answer(case.file) if case.by_hand is None else case.by_hand
         expect(f"{case.name} ({case.shows})", [START], expected, input=case.file)
-    print(f"file: table: {len(cases)} cases, {sum(case.by_hand is not None for case in cases)} of them by hand")
+    print(f"file: table: {len(cases)} cases, {by_hand(cases)} of them by hand")
 
 
 def samples():
@@ -188,7 +187,7 @@ def from_file(case, file):
 def unreadable():
     """A read error counts as the end of the input."""
     expect("standard input is closed", ["bash", "-c", 'exec "$0" <&-', START], REFUSALS[0])
-    place = os.open(FOLDER, os.O_RDONLY)
+    place = os.open(BY_TOOLS, os.O_RDONLY)
     expect("standard input is a folder", [START], REFUSALS[0], stdin=place)
     os.close(place)
 
@@ -220,9 +219,9 @@ def streams(cases):
 
 def main():
     cases = table()
-    folder(cases)
+    agreement(cases)
     if faults:
-        sys.exit(f"file: FAILED: the folder has {len(faults)} faults")
+        sys.exit(f"file: FAILED: {len(faults)} faults in the table, and nothing was run")
     each_case(cases)
     samples()
     streams(cases)

@@ -9,8 +9,9 @@ use lib.Dec.{eqb}
 use Rattle.tables.proofs.Cases.{cond-same}
 use Rattle.pixel.specs.Strip.{pixelsOf, Bytes}
 use Rattle.pixel.proofs.Strips.{length-pixels}
+use Rattle.measuring.specs.Histogram.{pixelsIn}
 use Rattle.curve.specs.Curve.{IsToneCurve}
-use Rattle.shot.specs.Shot.{opened, withStrip, measured, withCurve, fixedWith, pixelsIn, coloured}
+use Rattle.shot.specs.Shot.{opened, withStrip, measured, withCurve, fixedWith, coloured}
 use Rattle.shot.specs.declared.Shot.{Shot}
 use Rattle.shot.proofs.Holds.{Holds, up-to-of-held, last-of-held, holds-opened, holds-strip, curve-of-strips, holds-curve}
 use Rattle.shot.proofs.Passed.{MeasuringAccepted, measure-passed, FixingAccepted, fix-passed}

@@ -10,7 +10,7 @@ use borrow.Author.Tests.{eqb-true, eq-eqb, ne-eqb}
 use lib.Dec.{eqb}
 use Rattle.tables.specs.Table.{_among_}
 use Rattle.tables.proofs.Cases.{cond-same}
-use Rattle.shot.specs.Shot.{curveOf}
+use Rattle.curve.specs.Curve.{curveOf}
 use Rattle.book.specs.Accuracy.{stripOf, stripsMeasured, FixedBy}
 use Rattle.book.specs.Book.{Call, Call.opening, Call.measuring, Call.fixing, Call.colouring, Book, emptyBook, expectedAnswer, entered, bookStep}
 use Rattle.book.specs.Run.{Step, number, isOpening}

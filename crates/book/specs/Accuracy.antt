@@ -9,12 +9,11 @@ use lib.Dec.{eqb}
 use lib.ListN.{length}
 use Rattle.tables.specs.Table.{at, _among_}
 use Rattle.pixel.specs.Methods.{methodOf}
-use Rattle.curve.specs.Curve.{IsToneCurve}
-use Rattle.curve.specs.Histogram.{cumulative}
-use Rattle.measuring.specs.Histogram.{countOf, countUpTo}
+use Rattle.curve.specs.Curve.{curveOf, IsToneCurve}
+use Rattle.measuring.specs.Histogram.{pixelLimit, pixelsIn, countOf, countUpTo, cumulative}
 use Rattle.colouring.specs.Written.{Written, Colouring, writtenBy, ColouringAccurate, AtMostTwoBelow}
 use Rattle.shot.specs.Reachable.{Reachable}
-use Rattle.shot.specs.Shot.{pixelLimit, ColourRequest, Outcome, pixelsIn, curveOf}
+use Rattle.shot.specs.Shot.{ColourRequest, Outcome}
 use Rattle.shot.specs.declared.Shot.{Shot}
 use Rattle.book.specs.Book.{Call, Call.opening, Call.measuring, Call.fixing, Call.colouring, Book, hasCurve, expectedAnswer}
 use Rattle.book.specs.Run.{Step, number, trace, Occurs, WellFormed}

@@ -9,8 +9,10 @@ use lib.ListN.{length}
 use Rattle.refusal.specs.Refusal.{Check, _refuses_, firstOf}
 use Rattle.pixel.specs.Methods.{isMethod}
 use Rattle.pixel.specs.Strip.{isWhole, pixelsOf}
+use Rattle.measuring.specs.Histogram.{pixelLimit, pixelsIn}
 use Rattle.curve.specs.Choices.{isChoice}
-use Rattle.shot.specs.Shot.{pixelLimit, ColourRequest, pixelsIn, curveOf}
+use Rattle.curve.specs.Curve.{curveOf}
+use Rattle.shot.specs.Shot.{ColourRequest}
 
 -- A call, with what it brings besides the shot.
 pub data Call : Type 0 where

@@ -1,5 +1,4 @@
-pub mod Along
 pub mod EachPixel
 pub mod Lines
-pub mod Stores
+pub mod Loop
 pub mod Written

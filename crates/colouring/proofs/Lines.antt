@@ -1,50 +1,28 @@
--- What a line gives at a sample: the rounded multiple of its fraction, counted up from black or down from white.
-use mathlib.Core.Path.{_≡_, sym, ap, _∙_}
-use Prim.Native.Nat.{ℕ, _+_, _-_, _*_, _/_, _%_, _^_, _≤_, _<_}
-use native.Mathlib.Nat.{add-mul, mul-le-mul, mul-le-mul-right, div-lt-iff-lt-mul}
-use native.Mathlib.Omega.{arith}
-use Rattle.rounding.specs.Near.{near}
-use Rattle.rounding.specs.Slope.{slope}
-use Rattle.rounding.proofs.Slope.{multiply-and-shift}
-use Rattle.colouring.specs.Line.{half, onLine, upFrom, downTo, Slopes}
+-- A strip that is moved along the lines of a curve is coloured by it.
+use mathlib.Core.List.{List}
+use mathlib.Core.Path.{_≡_}
+use Prim.Native.Nat.{ℕ}
+use Rattle.tables.specs.Table.{at}
+use Rattle.pixel.specs.Move.{Channel, Channel.red, Channel.green, Channel.blue, sample, intensity, movedSample, moved}
+use Rattle.pixel.specs.Strip.{Bytes}
+use Rattle.pixel.specs.declared.Method.{Method}
+use Rattle.pixel.proofs.Channels.{inside}
+use Rattle.pixel.proofs.Strips.{pixels-in-range, intensity-in-range}
+use Rattle.curve.specs.Curve.{EntriesInRange}
+use Rattle.lines.specs.Line.{sampleAt, lineAt, LinesOf}
+use Rattle.lines.specs.declared.FixedLine.{FixedLine}
+use Rattle.colouring.specs.Colouring.{colouredStrip}
+use Rattle.colouring.specs.Inner.{alongLines}
+use Rattle.colouring.proofs.EachPixel.{each-pixel-same}
 
--- Parts that are counted from f, with so many of them added, in whole steps: f falls away.
-steps-up : (x f parts v : ℕ) → f < 2 ^ 40 → parts < 2 ^ 32 → (x + parts) / 2 ^ 24 ≡ v → v ≤ 255
-    → (x + f + (2 ^ 40 + parts - f) % 2 ^ 32) % 2 ^ 32 / 2 ^ 24 ≡ v
-steps-up x f parts v fits small rounds white = omega arith
-
--- Parts that are counted down to f, from the last part of 256 steps less a half.
-steps-down : (x y f v : ℕ) → x + y ≡ f → f < 2 ^ 40 → (x + half) / 2 ^ 24 ≡ v → v ≤ 255
-    → (y + (2 ^ 40 + (2 ^ 32 - 1 - half) - f) % 2 ^ 32) % 2 ^ 32 / 2 ^ 24 ≡ 255 - v
-steps-down x y f v sum fits rounds white = omega arith
-
-module _ {n d from : ℕ} (h : Slopes n d from) where
-  abbrev a : ℕ
-  a = slope half n d
-
-  -- a slope of at most 255 steps, so that `from` of them stay below 2^40
-  pub slope-fits : a ≤ 255 * 2 ^ 24 + 1
-  slope-fits =
-      let parts = mul-le-mul-right {m = n} {n = 255 * d} (2 ^ 24) (h .steep) in
-      let below : n * 2 ^ 24 / d < 255 * 2 ^ 24 + 1 =
-      div-lt-iff-lt-mul (h .positive) .1 (omega arith) in
-      omega arith
-
-  pub from-fits : from * a < 2 ^ 40
-  from-fits = omega (arith, mul-le-mul {n₁ = from} {m₁ = a} {n₂ = 255} {m₂ = 255 * 2 ^ 24 + 1} (h .byte) slope-fits)
-
-  -- at the sample c, x above or below `from`, and over the product v of x and n
-  module _ (x c v : ℕ) (product : x * n ≡ v) (byte : x ≤ 255) (white : near v d ≤ 255) where
-    rounds : (x * a + half) / 2 ^ 24 ≡ near v d
-    rounds =
-        multiply-and-shift half x n d (h .positive)
-        (omega (arith, mul-le-mul {n₁ = x} {m₁ = d} {n₂ = 255} {m₂ = 1530} byte (h .divisor)))
-        ∙ ap (λ (k : ℕ). near k d) product
-
-    pub on-up : x + from ≡ c → onLine (upFrom n d from) c ≡ near v d
-    on-up e =
-        ap (λ (k : ℕ). (k + (2 ^ 40 + half - from * a) % 2 ^ 32) % 2 ^ 32 / 2 ^ 24) (ap (λ (k : ℕ). k * a) (sym e) ∙ add-mul x from a)
-        ∙ steps-up (x * a) (from * a) half (near v d) from-fits (omega arith) rounds white
-
-    pub on-down : x + c ≡ from → onLine (downTo n d from) c ≡ 255 - near v d
-    on-down e = steps-down (x * a) (c * a) (from * a) (near v d) (sym (add-mul x c a) ∙ ap (λ (k : ℕ). k * a) e) from-fits rounds white
+pub lines-colour : (method : Method) (curve : List ℕ) (lines : List FixedLine) (source : List ℕ) → LinesOf method curve lines
+    → EntriesInRange curve → Bytes source → alongLines lines source ≡ colouredStrip method curve source
+unfolding colouredStrip moved
+lines-colour method curve lines source right range bytes =
+    each-pixel-same _ _ source (λ p among.
+    let small = pixels-in-range source bytes p among in
+    let s = intensity p in
+    let le = intensity-in-range p small in
+    let same : (a : Channel) → sampleAt (lineAt lines s) (sample p a) ≡ movedSample method s (at curve s) (sample p a) =
+    λ a. right s le (sample p a) (inside p (at curve s) small (range s le) a) in
+    λ i. record { r = same red i; g = same green i; b = same blue i })

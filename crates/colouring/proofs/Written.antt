@@ -9,9 +9,10 @@ use lib.Dec.{eqb}
 use lib.ListN.{length}
 use Rattle.refusal.specs.Refusal.{ifAccepted}
 use Rattle.refusal.proofs.Laws.{accepted-leaves, refused-leaves, either-leaves}
+use Rattle.rounding.specs.Fraction.{whole}
 use Rattle.tables.specs.Table.{at, _among_}
 use Rattle.tables.proofs.Laws.{tabulate-member}
-use Rattle.pixel.specs.Accuracy.{factor, PixelAccurate, OwnEnds}
+use Rattle.pixel.specs.Accuracy.{factor, mission, PixelAccurate, OwnEnds}
 use Rattle.pixel.specs.Move.{sample, intensity, moved}
 use Rattle.pixel.specs.Paper.{Rounds, exactSample}
 use Rattle.pixel.specs.Strip.{isWhole, pixelAt, Bytes}
@@ -79,7 +80,7 @@ by-curve method curve source tone bytes w m =
       rounded = λ a.
           subst (λ (q : Pixel). Rounds (sample q a) (exactSample method p f a)) (sym (coloured-at method curve source i inside))
           (moves-round-the-paper method p f a in-range target);
-      rules = subst (PixelAccurate (factor method (intensity p) f) f p) (sym (coloured-at method curve source i inside)) accurate;
+      rules = subst (PixelAccurate mission (factor method (intensity p) f) (whole f) p) (sym (coloured-at method curve source i inside)) accurate;
       entry = refl;
       range = small;
     })
@@ -91,8 +92,8 @@ pub one-curve-keeps-order : OneCurveKeepsOrder
 one-curve-keeps-order m n curve source other tone bytes bytes' v w mv mw le =
     let first = by-curve m curve source tone bytes v mv in
     let second = by-curve n curve other tone bytes' w mw in
-    let rises = tone .rises (intensity (v .input)) (intensity (w .input)) le (second .range) in
-    omega (arith, first .rules .sumAbove, second .rules .sumBelow, first .entry, second .entry)
+    let rises = tone .neverFalls (intensity (v .input)) (intensity (w .input)) le (second .range) in
+    omega (arith, first .rules .sum, second .rules .sum, first .entry, second .entry)
 
 -- What a colouring leaves, whatever checks gave its number: an accepted one has passed the checks of lengths, has a tone curve where there is
 -- a pixel to write, and leaves the coloured source; a refused one leaves what was there.

@@ -1,4 +1,3 @@
 pub mod Colouring
 pub mod Written
 pub mod Inner
-pub mod Line

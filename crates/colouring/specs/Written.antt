@@ -4,8 +4,9 @@ use mathlib.Core.Path.{_≡_}
 use Prim.Native.Nat.{ℕ, _+_, _/_, _≤_}
 use lib.ListN.{length}
 use Rattle.refusal.specs.Refusal.{ifAccepted}
+use Rattle.rounding.specs.Fraction.{whole}
 use Rattle.tables.specs.Table.{tabulate, at, _among_}
-use Rattle.pixel.specs.Accuracy.{factor, PixelAccurate}
+use Rattle.pixel.specs.Accuracy.{factor, mission, PixelAccurate}
 use Rattle.pixel.specs.Move.{Channel, sample, intensity, moved}
 use Rattle.pixel.specs.Paper.{Rounds, exactSample}
 use Rattle.pixel.specs.Strip.{pixelAt, Bytes}
@@ -24,7 +25,7 @@ pub record Written : Type 0 where
 -- The pixel keeps the rules of demand 3. The factor is set by input sum, entry and method alone.
 abbrev pub WrittenAccurate : Written → Type 0
 WrittenAccurate w =
-    PixelAccurate (factor (w .method) (intensity (w .input)) (w .entry)) (w .entry) (w .input) (w .output)
+    PixelAccurate mission (factor (w .method) (intensity (w .input)) (w .entry)) (whole (w .entry)) (w .input) (w .output)
 
 -- Demand 2 for a pixel written: it is the source pixel, moved to the entry by the method.
 abbrev pub WrittenExact : Written → Type 0
@@ -62,9 +63,13 @@ ColouredPixelsAreAccurate =
     (method : Method) (curve source : List ℕ) → IsToneCurve curve → Bytes source
     → (w : Written) → w among colouredPixels method curve source → WrittenAccurate w
 
--- Of two pixels, the one whose input sum is no smaller has a sum at most two below the other's.
+-- Of two pixels, the one whose input sum is no smaller has a sum at most n below the other's.
+abbrev pub AtMostBelow : ℕ → Written → Written → Type 0
+AtMostBelow n v w = intensity (v .input) ≤ intensity (w .input) → intensity (v .output) ≤ intensity (w .output) + n
+
+-- The mission's n.
 abbrev pub AtMostTwoBelow : Written → Written → Type 0
-AtMostTwoBelow v w = intensity (v .input) ≤ intensity (w .input) → intensity (v .output) ≤ intensity (w .output) + 2
+AtMostTwoBelow = AtMostBelow 2
 
 -- Claim: that holds of any two pixels written by one tone curve, in whichever colourings and by whichever methods.
 -- Proved: proofs/Written.antt, `one-curve-keeps-order`.

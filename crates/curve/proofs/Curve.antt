@@ -14,45 +14,45 @@ use Rattle.tables.proofs.Cases.{either}
 use Rattle.tables.proofs.Laws.{length-tabulate, at-tabulate, at-table, is-tabulate, tabulate-same}
 use Rattle.targets.specs.Cube.{G}
 use Rattle.targets.proofs.Laws.{targets-are-right}
-use Rattle.curve.specs.Curve.{shareOf, wholeOf, previous, shareAt, cubeEntry, equalisedEntry, byChoice, withEnds, entry, toneCurve, CurvesAreToneCurves}
-use Rattle.curve.specs.Histogram.{NonDecreasing, IsCumulative}
-use Rattle.curve.specs.Inner.{Shares, AimsFit}
+use Rattle.measuring.specs.Histogram.{NonDecreasing, IsCumulative}
+use Rattle.curve.specs.Curve.{shareCount, fullCount, previous, shareAt, cubeEntry, equalisedEntry, byChoice, withEnds, entry, toneCurve, CurvesAreToneCurves}
+use Rattle.curve.specs.Inner.{SharesFit, AimsFit}
 use Rattle.curve.specs.Nearest.{Nearest, nearestPlace}
 use Rattle.curve.specs.declared.Choice.{Choice}
 use Rattle.curve.specs.declared.Choice.the-variants.{Cube, Equalised}
 use Rattle.curve.proofs.Nearest.{nearest-mono, nearest-is, nearest-same}
 
--- What all other laws lean on of a share and of the whole: these four, and no other law, unfold them.
--- a share rises with both its counts
-share-rises : {below below' upto upto' : ℕ} → below ≤ below' → upto ≤ upto' → shareOf below upto ≤ shareOf below' upto'
-unfolding shareOf
+-- What all other laws lean on of the share count and the full count: these four, and no other law, unfold them.
+-- a share count rises with both its counts
+share-rises : {below below' upto upto' : ℕ} → below ≤ below' → upto ≤ upto' → shareCount below upto ≤ shareCount below' upto'
+unfolding shareCount
 share-rises h l = omega arith
 
--- it is at most the whole
-share-le-whole : {below upto n : ℕ} → below ≤ n → upto ≤ n → shareOf below upto ≤ wholeOf n
-unfolding shareOf wholeOf
-share-le-whole h l = omega arith
+-- it is at most the full count
+share-le-full : {below upto n : ℕ} → below ≤ n → upto ≤ n → shareCount below upto ≤ fullCount n
+unfolding shareCount fullCount
+share-le-full h l = omega arith
 
--- the whole is positive
-whole-positive : {n : ℕ} → 0 < n → 0 < wholeOf n
-unfolding wholeOf
-whole-positive h = omega arith
+-- the full count is positive
+full-positive : {n : ℕ} → 0 < n → 0 < fullCount n
+unfolding fullCount
+full-positive h = omega arith
 
 -- and at most 2^32
-pub whole-le : {n : ℕ} → n ≤ 2 ^ 31 → wholeOf n ≤ 2 ^ 32
-unfolding wholeOf
-whole-le h = omega arith
+pub full-le : {n : ℕ} → n ≤ 2 ^ 31 → fullCount n ≤ 2 ^ 32
+unfolding fullCount
+full-le h = omega arith
 
 module _ {N : ℕ} {H : ℕ → ℕ} (is : IsCumulative N H) where
   -- H(s − 1) does not fall
   previous-rises : (s t : ℕ) → s ≤ t → t ≤ 765 → previous H s ≤ previous H t
   previous-rises zero t h l = zero-le
   previous-rises (suc s) zero h l = omega arith
-  previous-rises (suc s) (suc t) h l = is .rises s t (le-of-suc-le-suc h) (omega arith)
+  previous-rises (suc s) (suc t) h l = is .neverFalls s t (le-of-suc-le-suc h) (omega arith)
 
   -- H(s) is at most N
   all-le : (s : ℕ) → s ≤ 765 → H s ≤ N
-  all-le s h = omega (arith, is .rises s 765 h (le-refl 765), is .last)
+  all-le s h = omega (arith, is .neverFalls s 765 h (le-refl 765), is .last)
 
   -- and so is H(s − 1)
   previous-le : (s : ℕ) → s ≤ 765 → previous H s ≤ N
@@ -61,11 +61,11 @@ module _ {N : ℕ} {H : ℕ → ℕ} (is : IsCumulative N H) where
 
   -- the shares do not fall
   shares-rise : (s t : ℕ) → s ≤ t → t ≤ 765 → shareAt H s ≤ shareAt H t
-  shares-rise s t h l = share-rises (previous-rises s t h l) (is .rises s t h l)
+  shares-rise s t h l = share-rises (previous-rises s t h l) (is .neverFalls s t h l)
 
-  -- none is larger than the whole
-  shares-le : (s : ℕ) → s ≤ 765 → shareAt H s ≤ wholeOf N
-  shares-le s h = share-le-whole (previous-le s h) (all-le s h)
+  -- none is larger than the full count
+  shares-le : (s : ℕ) → s ≤ 765 → shareAt H s ≤ fullCount N
+  shares-le s h = share-le-full (previous-le s h) (all-le s h)
 
 -- G does not fall
 G-rises : NonDecreasing G
@@ -125,7 +125,7 @@ pub ends-inner : (f : ℕ → ℕ) (s : ℕ) → 0 < s → s < 765 → withEnds 
 unfolding withEnds
 ends-inner f s h l = simp (ne-eqb s 0 (λ e. omega arith), ne-eqb s 765 (λ e. omega arith))
 
--- a sum is 0, or 765, or between them
+-- an intensity is 0, or 765, or between them
 by-ends : (P : ℕ → Type 0) (s : ℕ) → s ≤ 765 → P 0 → P 765 → (0 < s → s < 765 → P s) → P s
 by-ends P s h black white inner =
     either s 0 (λ p. let e : 0 ≡ s = omega arith in subst P e black)
@@ -170,11 +170,11 @@ ends-set entries size =
     ∙ getD-set-other entries 0 k 0 0 (λ z. omega arith)
     ∙ sym (ends-inner (at entries) k p q)))
 
--- the entry for the sum s, before the ends are set
+-- the entry for the intensity s, before the ends are set
 abbrev inner : Choice → ℕ → (ℕ → ℕ) → ℕ → ℕ
-inner choice N H s = byChoice choice (wholeOf N) (shareAt H s)
+inner choice N H s = byChoice choice (fullCount N) (shareAt H s)
 
--- the curve's entry for the sum s
+-- the curve's entry for the intensity s
 curve-at : (choice : Choice) (N : ℕ) (H : ℕ → ℕ) (s : ℕ) → s ≤ 765 → at (toneCurve choice N H) s ≡ withEnds (inner choice N H) s
 unfolding toneCurve entry
 curve-at choice N H s h = at-tabulate (entry choice N H) 766 s (omega arith)
@@ -187,11 +187,11 @@ curve-length choice N H = length-tabulate (entry choice N H) 766
 module _ (choice : Choice) (N : ℕ) (H : ℕ → ℕ) (positive : 0 < N) (is : IsCumulative N H) where
   -- before the ends are set no entry is above 765
   inner-le : (s : ℕ) → s ≤ 765 → inner choice N H s ≤ 765
-  inner-le s h = choice-le (wholeOf N) (whole-positive positive) choice (shares-le is s h)
+  inner-le s h = choice-le (fullCount N) (full-positive positive) choice (shares-le is s h)
 
   -- and none is less than the one before
   inner-rises : NonDecreasing (inner choice N H)
-  inner-rises s t h l = choice-rises (wholeOf N) (whole-positive positive) choice (shares-rise is s t h l)
+  inner-rises s t h l = choice-rises (fullCount N) (full-positive positive) choice (shares-rise is s t h l)
 
   -- no entry of the curve is above 765
   curve-le : (s : ℕ) → s ≤ 765 → at (toneCurve choice N H) s ≤ 765
@@ -209,7 +209,7 @@ curves-are-tone-curves choice N H positive is =
       black = curve-at choice N H 0 zero-le ∙ ends-black (inner choice N H);
       white = curve-at choice N H 765 (le-refl 765) ∙ ends-white (inner choice N H);
       range = curve-le choice N H positive is;
-      rises = curve-rises choice N H positive is;
+      neverFalls = curve-rises choice N H positive is;
     }
 
 -- H(s − 1) of histograms that agree up to 765
@@ -230,40 +230,40 @@ pub tone-curve-same : (choice : Choice) (N : ℕ) (H H' : ℕ → ℕ) → ((s :
 tone-curve-same choice N H H' same =
     sym (curve-of choice N H (inner choice N H) (λ s h. refl))
     ∙ curve-of choice N H' (inner choice N H)
-    (λ s h. ap (byChoice choice (wholeOf N)) (ap₂ shareOf (previous-same H H' same s h) (same s h)))
+    (λ s h. ap (byChoice choice (fullCount N)) (ap₂ shareCount (previous-same H H' same s h) (same s h)))
 
 -- The parts that the code makes, and the curve that comes of them.
-module _ (N : ℕ) (H : ℕ → ℕ) (whole : ℕ) (shares : List ℕ) (wholeIs : whole ≡ wholeOf N) (sharesAre : shares ≡ tabulate (shareAt H) 766) where
+module _ (N : ℕ) (H : ℕ → ℕ) (full : ℕ) (shares : List ℕ) (fullIs : full ≡ fullCount N) (sharesAre : shares ≡ tabulate (shareAt H) 766) where
   -- each share, read from its table
   shares-at : (s : ℕ) → s ≤ 765 → at shares s ≡ shareAt H s
   shares-at s h = at-table (shareAt H) 766 shares sharesAre s (omega arith)
 
   -- the entries by a rule, with the ends set
   entries-curve : (choice : Choice) (f : ℕ → ℕ) (entries curve : List ℕ) → entries ≡ tabulate f 766
-      → curve ≡ tabulate (withEnds (at entries)) 766 → ((s : ℕ) → s ≤ 765 → f s ≡ byChoice choice whole (at shares s))
+      → curve ≡ tabulate (withEnds (at entries)) 766 → ((s : ℕ) → s ≤ 765 → f s ≡ byChoice choice full (at shares s))
       → curve ≡ toneCurve choice N H
   entries-curve choice f entries curve entriesAre curveIs same =
       curveIs
       ∙ curve-of choice N H (at entries)
       (λ s h.
-      at-table f 766 entries entriesAre s (omega arith) ∙ same s h ∙ ap₂ (byChoice choice) wholeIs (shares-at s h))
+      at-table f 766 entries entriesAre s (omega arith) ∙ same s h ∙ ap₂ (byChoice choice) fullIs (shares-at s h))
 
   -- choice 2: the curve, from the equalised entries
-  pub equalised-curve : (entries curve : List ℕ) → entries ≡ tabulate (λ s. equalisedEntry whole (at shares s)) 766
+  pub equalised-curve : (entries curve : List ℕ) → entries ≡ tabulate (λ s. equalisedEntry full (at shares s)) 766
       → curve ≡ tabulate (withEnds (at entries)) 766 → curve ≡ toneCurve Equalised N H
   equalised-curve entries curve entriesAre curveIs =
-      entries-curve Equalised (λ s. equalisedEntry whole (at shares s)) entries curve entriesAre curveIs (λ s h. refl)
+      entries-curve Equalised (λ s. equalisedEntry full (at shares s)) entries curve entriesAre curveIs (λ s h. refl)
 
   -- choice 1, with the scaled targets in a table
-  module _ (scaled : List ℕ) (scaledAre : scaled ≡ tabulate (λ k. whole * G k) 766) where
+  module _ (scaled : List ℕ) (scaledAre : scaled ≡ tabulate (λ k. full * G k) 766) where
     -- each scaled target, read from its table
-    scaled-at : (k : ℕ) → k ≤ 765 → at scaled k ≡ whole * G k
-    scaled-at k h = at-table (λ k. whole * G k) 766 scaled scaledAre k (omega arith)
+    scaled-at : (k : ℕ) → k ≤ 765 → at scaled k ≡ full * G k
+    scaled-at k h = at-table (λ k. full * G k) 766 scaled scaledAre k (omega arith)
 
     -- the table does not fall
     pub scaled-non-decreasing : NonDecreasing (at scaled)
     scaled-non-decreasing j k h l =
-        rw (scaled-at j (le-trans h l), scaled-at k l) (scaled-rises whole j k h l)
+        rw (scaled-at j (le-trans h l), scaled-at k l) (scaled-rises full j k h l)
 
     -- the curve, from the nearest places
     pub cube-curve : (top : ℕ) (entries curve : List ℕ) → top ≡ G 765
@@ -273,24 +273,24 @@ module _ (N : ℕ) (H : ℕ → ℕ) (whole : ℕ) (shares : List ℕ) (wholeIs 
     cube-curve top entries curve topIs entriesAre curveIs =
         entries-curve Cube (λ s. nearestPlace (at scaled) 765 (top * at shares s)) entries curve entriesAre curveIs
         (λ s h.
-        nearest-same (at scaled) (λ k. whole * G k) 765 (top * at shares s) scaled-at
-        ∙ ap (λ (t : ℕ). nearestPlace (λ k. whole * G k) 765 (t * at shares s)) topIs)
+        nearest-same (at scaled) (λ k. full * G k) 765 (top * at shares s) scaled-at
+        ∙ ap (λ (t : ℕ). nearestPlace (λ k. full * G k) 765 (t * at shares s)) topIs)
 
   -- the shares of a cumulative histogram do not fall
   pub shares-non-decreasing : IsCumulative N H → NonDecreasing (at shares)
   shares-non-decreasing is s t h l = rw (shares-at s (le-trans h l), shares-at t l) (shares-rise is s t h l)
 
-  -- and, of 1 to 2^31 pixels, are within the whole
-  pub shares-fit : 0 < N → N ≤ 2 ^ 31 → IsCumulative N H → Shares whole shares
+  -- and, of 1 to 2^31 pixels, are within the full count
+  pub shares-fit : 0 < N → N ≤ 2 ^ 31 → IsCumulative N H → SharesFit full shares
   shares-fit positive most is =
       record {
-        some = rw wholeIs (whole-positive positive);
-        most = rw wholeIs (whole-le most);
-        part = λ s h. rw (shares-at s h, wholeIs) (shares-le is s h);
+        some = rw fullIs (full-positive positive);
+        most = rw fullIs (full-le most);
+        part = λ s h. rw (shares-at s h, fullIs) (shares-le is s h);
       }
 
--- shares within the whole, each times a number up to G(765), fit into 64 bits
-pub aims-fit : (whole : ℕ) (shares : List ℕ) → Shares whole shares → (top : ℕ) → top ≤ 99488250 → AimsFit top shares
-aims-fit whole shares fit top small s h =
+-- shares within the full count, each times a number up to G(765), fit into 64 bits
+pub aims-fit : (full : ℕ) (shares : List ℕ) → SharesFit full shares → (top : ℕ) → top ≤ 99488250 → AimsFit top shares
+aims-fit full shares fit top small s h =
     let le : top * at shares s ≤ 99488250 * 2 ^ 32 = mul-le-mul small (le-trans (fit .part s h) (fit .most)) in
     omega arith

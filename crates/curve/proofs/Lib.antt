@@ -2,4 +2,5 @@ pub mod Numbers
 pub mod Nearest
 pub mod Curve
 pub mod Histogram
+pub mod Strips
 pub mod Paper

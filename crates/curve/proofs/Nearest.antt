@@ -8,7 +8,7 @@ use native.Mathlib.Omega.{arith}
 use borrow.Author.Tests.{lt-ltb, le-ltb}
 use Rattle.tables.specs.Table.{at}
 use Rattle.tables.proofs.Cases.{either}
-use Rattle.curve.specs.Histogram.{NonDecreasing}
+use Rattle.measuring.specs.Histogram.{NonDecreasing}
 use Rattle.curve.specs.Inner.{Plateau, Bounding}
 use Rattle.curve.specs.Nearest.{distance, Nearest, nearer, nearestPlace, NearestMeans}
 

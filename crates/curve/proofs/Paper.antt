@@ -1,17 +1,14 @@
 -- Document 01's entries are those of source 004, equations 5 and 14.
 use mathlib.Core.Path.{_≡_, sym, ap, ap₂, subst, _∙_}
-use mathlib.Core.Bool.{false}
 use Prim.Native.Nat.{ℕ, _+_, _-_, _*_, _≤_, _<_}
 use native.Mathlib.Nat.{mul-assoc, mul-comm, mul-left-comm, one-mul, mul-sub, mul-add, add-mul, mul-pos, mul-le-mul-right, mul-lt-mul-of-pos-right, le-of-mul-le-mul-left, lt-of-mul-lt-mul-left, le-of-lt, le-trans}
 use native.Mathlib.Omega.{arith}
-use lib.Dec.{T, le→leb}
-use borrow.Author.Tests.{lt-leb}
 use Rattle.rounding.specs.Near.{near}
-use Rattle.rounding.specs.Fraction.{Fraction, whole, _over_, _⊗_, _≼_, nearest}
+use Rattle.rounding.specs.Fraction.{Fraction, whole, _over_, _⊗_, _≼_, _≺_, nearest}
 use Rattle.targets.specs.Cube.{G, cube}
 use Rattle.targets.specs.Paper.{area}
 use Rattle.targets.proofs.Laws.{targets-are-right}
-use Rattle.curve.specs.Curve.{shareOf, wholeOf, cubeEntry, equalisedEntry, byChoice, entry}
+use Rattle.curve.specs.Curve.{shareCount, fullCount, cubeEntry, equalisedEntry, byChoice, entry}
 use Rattle.curve.specs.Nearest.{distance}
 use Rattle.curve.specs.Paper.{apart, equation5, equation14, EntriesAreThePapers}
 use Rattle.curve.specs.declared.Choice.{Choice}
@@ -99,7 +96,7 @@ equation14-times n h k le = apart-times (n-times n (area-times k le)) (top-times
 
 -- between the ends the entry for s is made from N and H(s)
 entry-is : (choice : Choice) (N : ℕ) (H : ℕ → ℕ) (s : ℕ) → 0 < s → s < 765 → byChoice choice N (H s) ≡ entry choice N H s
-unfolding entry shareOf wholeOf
+unfolding entry shareCount fullCount
 entry-is choice N H s h l = sym (ends-inner (λ s. byChoice choice N (H s)) s h l)
 
 -- equation 5 is document 01's fraction
@@ -108,18 +105,16 @@ unfolding equalisedEntry
 equalised-is n h = ap₂ near (omega arith) (omega arith)
 
 -- the cube entry's distance is least
-cube-least : (n h j : ℕ) → j ≤ 765 → T (equation14 n h (cubeEntry n h) ≼ equation14 n h j)
+cube-least : (n h j : ℕ) → j ≤ 765 → equation14 n h (cubeEntry n h) ≼ equation14 n h j
 cube-least n h j l =
-    le→leb _ _
-    (order-kept (equation14-times n h (cubeEntry n h) (cube-nearest n h .within)) (equation14-times n h j l) (omega arith)
-    (cube-nearest n h .least j l))
+    order-kept (equation14-times n h (cubeEntry n h) (cube-nearest n h .within)) (equation14-times n h j l) (omega arith)
+    (cube-nearest n h .least j l)
 
 -- and that of every smaller k is larger
-cube-first : (n h j : ℕ) → j < cubeEntry n h → (equation14 n h j ≼ equation14 n h (cubeEntry n h)) ≡ false
+cube-first : (n h j : ℕ) → j < cubeEntry n h → equation14 n h (cubeEntry n h) ≺ equation14 n h j
 cube-first n h j l =
-    lt-leb _ _
-    (strictly-kept (equation14-times n h (cubeEntry n h) (cube-nearest n h .within))
-    (equation14-times n h j (le-trans (le-of-lt l) (cube-nearest n h .within))) (cube-nearest n h .first j l))
+    strictly-kept (equation14-times n h (cubeEntry n h) (cube-nearest n h .within))
+    (equation14-times n h j (le-trans (le-of-lt l) (cube-nearest n h .within))) (cube-nearest n h .first j l)
 
 pub entries-are-the-papers : EntriesAreThePapers
 entries-are-the-papers =
@@ -127,9 +122,9 @@ entries-are-the-papers =
       equalised = λ N H s some h l. sym (entry-is Equalised N H s h l) ∙ equalised-is N (H s);
       within = λ N H s h l. subst (λ (k : ℕ). k ≤ 765) (entry-is Cube N H s h l) (cube-nearest N (H s) .within);
       least = λ N H s h l.
-          subst (λ (k : ℕ). (j : ℕ) → j ≤ 765 → T (equation14 N (H s) k ≼ equation14 N (H s) j)) (entry-is Cube N H s h l)
+          subst (λ (k : ℕ). (j : ℕ) → j ≤ 765 → equation14 N (H s) k ≼ equation14 N (H s) j) (entry-is Cube N H s h l)
           (cube-least N (H s));
       first = λ N H s h l.
-          subst (λ (k : ℕ). (j : ℕ) → j < k → (equation14 N (H s) j ≼ equation14 N (H s) k) ≡ false) (entry-is Cube N H s h l)
+          subst (λ (k : ℕ). (j : ℕ) → j < k → equation14 N (H s) k ≺ equation14 N (H s) j) (entry-is Cube N H s h l)
           (cube-first N (H s));
     }

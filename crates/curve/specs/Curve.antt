@@ -1,4 +1,4 @@
--- The tone curve of a shot (document 01, "Fixing the curve"): N is its number of pixels, and H(s) of them have a sum of at most s.
+-- The tone curve of a shot (document 01, "Fixing the curve"): N is its number of pixels, and H(s) of them have an intensity of at most s.
 use mathlib.Core.Path.{_≡_}
 use mathlib.Core.Bool.{cond}
 use mathlib.Core.List.{List}
@@ -8,29 +8,30 @@ use lib.ListN.{length}
 use Rattle.rounding.specs.Near.{near}
 use Rattle.tables.specs.Table.{tabulate, at}
 use Rattle.targets.specs.Cube.{G}
-use Rattle.curve.specs.Histogram.{NonDecreasing, IsCumulative}
+use Rattle.measuring.specs.Histogram.{pixelsIn, countUpTo, NonDecreasing, IsCumulative}
+use Rattle.curve.specs.Choices.{choiceOf}
 use Rattle.curve.specs.Nearest.{nearestPlace}
 use Rattle.curve.specs.declared.Choice.{Choice}
 use Rattle.curve.specs.declared.Choice.the-variants.{Cube, Equalised}
 
--- The share of the pixels that a sum's entry is made from, H(s) / N, is `shareOf below upto` over `wholeOf N`, where `below` pixels
--- have a smaller sum and `upto` have a sum of at most s. A share that counts less of its own sum would read `below` too: it
--- changes these two lines, and of the claims only the one that says that the entries are the paper's.
-unfoldable pub shareOf : ℕ → ℕ → ℕ
-shareOf below upto = upto
+-- The share of the pixels that the entry for an intensity s is made from is H(s) / N, as two counts: `shareCount below upto` over
+-- `fullCount N`, where `below` pixels have a smaller intensity and `upto` have one of at most s. Two kinds of claims lean on what these
+-- counts are: that the entries are the paper's (specs/Paper.antt), and figures computed from curves.
+unfoldable pub shareCount : ℕ → ℕ → ℕ
+shareCount below upto = upto
 
--- What all pixels count: N.
-unfoldable pub wholeOf : ℕ → ℕ
-wholeOf n = n
+-- What all N pixels count.
+unfoldable pub fullCount : ℕ → ℕ
+fullCount N = N
 
 -- H(s − 1), with H(−1) = 0.
 abbrev pub previous : (ℕ → ℕ) → ℕ → ℕ
 previous H zero = 0
 previous H (suc s) = H s
 
--- The share for the sum s.
+-- The share count for the intensity s.
 abbrev pub shareAt : (ℕ → ℕ) → ℕ → ℕ
-shareAt H s = shareOf (previous H s) (H s)
+shareAt H s = shareCount (previous H s) (H s)
 
 -- Choice 1, cube (equation 14): the k where the distance between N × G(k) and G(765) × H(s) is least. Of two equal distances the
 -- smaller k wins.
@@ -50,13 +51,17 @@ byChoice Equalised = equalisedEntry
 unfoldable pub withEnds : (ℕ → ℕ) → ℕ → ℕ
 withEnds f s = cond (eqb s 0) 0 (cond (eqb s 765) 765 (f s))
 
--- The entry for the sum s.
+-- The entry for the intensity s.
 unfoldable pub entry : Choice → ℕ → (ℕ → ℕ) → ℕ → ℕ
-entry choice N H = withEnds (λ s. byChoice choice (wholeOf N) (shareAt H s))
+entry choice N H = withEnds (λ s. byChoice choice (fullCount N) (shareAt H s))
 
--- The curve: 766 entries, one for each sum.
+-- The curve: 766 entries, one for each intensity.
 unfoldable pub toneCurve : Choice → ℕ → (ℕ → ℕ) → List ℕ
 toneCurve choice N H = tabulate (entry choice N H) 766
+
+-- The curve of some strips by a choice's number, "with N and H counted over all pixels held" (document 01, "The book and the whole run").
+unfoldable pub curveOf : ℕ → List (List ℕ) → List ℕ
+curveOf choice strips = toneCurve (choiceOf choice) (length (pixelsIn strips)) (countUpTo (pixelsIn strips))
 
 -- No entry is above 765.
 abbrev pub EntriesInRange : List ℕ → Type 0
@@ -69,7 +74,7 @@ pub record IsToneCurve (curve : List ℕ) : Type 0 where
   pub black : at curve 0 ≡ 0
   pub white : at curve 765 ≡ 765
   pub range : EntriesInRange curve
-  pub rises : NonDecreasing (at curve)
+  pub neverFalls : NonDecreasing (at curve)
 
 -- Claim: a curve made from a cumulative histogram of at least one pixel is such a curve. Proved: proofs/Curve.antt,
 -- `curves-are-tone-curves`.

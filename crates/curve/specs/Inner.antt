@@ -3,7 +3,7 @@ use mathlib.Core.Path.{_≡_}
 use mathlib.Core.List.{List}
 use Prim.Native.Nat.{ℕ, _*_, _^_, _≤_, _<_}
 use Rattle.tables.specs.Table.{at}
-use Rattle.curve.specs.Histogram.{cumulative}
+use Rattle.measuring.specs.Histogram.{cumulative}
 
 -- Every place before `upper` is below the aim.
 abbrev pub Below : List ℕ → ℕ → ℕ → Type 0
@@ -29,12 +29,12 @@ pub record HistogramOf (n : ℕ) (counts : List ℕ) : Type 0 where
   pub some : 0 < n
   pub most : n ≤ 2 ^ 31
 
--- No share is larger than the whole, which is positive and at most 2^32.
-pub record Shares (whole : ℕ) (shares : List ℕ) : Type 0 where
-  pub some : 0 < whole
-  pub most : whole ≤ 2 ^ 32
-  pub part : (s : ℕ) → s ≤ 765 → at shares s ≤ whole
+-- No share count is larger than the full count, which is positive and at most 2^32.
+pub record SharesFit (full : ℕ) (shares : List ℕ) : Type 0 where
+  pub some : 0 < full
+  pub most : full ≤ 2 ^ 32
+  pub part : (s : ℕ) → s ≤ 765 → at shares s ≤ full
 
--- Every share times the scale fits into 64 bits.
+-- Every share count times the scale fits into 64 bits.
 abbrev pub AimsFit : ℕ → List ℕ → Type 0
 AimsFit scale shares = (s : ℕ) → s ≤ 765 → scale * at shares s < 2 ^ 64

@@ -1,6 +1,5 @@
 pub mod Choices
 pub mod Nearest
-pub mod Histogram
 pub mod Curve
 pub mod Paper
 pub mod Inner

@@ -4,10 +4,10 @@ ghost use mathlib.Core.Bool.{true};
 ghost use Prim.Native.Nat.{_*_, _^_, _≤_, _<_};
 ghost use Rattle.tables.specs.Table.{tabulate, at};
 ghost use Rattle.targets.specs.Cube.{G};
+ghost use Rattle.measuring.specs.Histogram.{NonDecreasing, cumulative};
 ghost use Rattle.curve.specs.Choices.{isChoice, choiceOf};
-ghost use Rattle.curve.specs.Curve.{shareOf, wholeOf, shareAt, equalisedEntry, withEnds, toneCurve};
-ghost use Rattle.curve.specs.Histogram.{NonDecreasing, cumulative};
-ghost use Rattle.curve.specs.Inner.{Plateau, Below, Bounding, HistogramOf, Shares, AimsFit};
+ghost use Rattle.curve.specs.Curve.{shareCount, fullCount, shareAt, equalisedEntry, withEnds, toneCurve};
+ghost use Rattle.curve.specs.Inner.{Plateau, Below, Bounding, HistogramOf, SharesFit, AimsFit};
 ghost use Rattle.curve.specs.Nearest.{nearestPlace};
 
 // The curve choices: the cube's (equation 14 of source 004) and the equalised one (equation 5).
@@ -102,23 +102,23 @@ fn wide(count: u32) -> u64
     count as u64
 }
 
-// What a sum's entry counts of the pixels: `below` have a smaller sum, `upto` a sum of at most it.
-fn share(below: u64, upto: u64) -> u64
+// What an intensity's entry counts of the pixels: `below` have a smaller one, `upto` one of at most it.
+fn share_count(below: u64, upto: u64) -> u64
     requires { ⌜ (below ≤ 2 ^ 42) × (upto ≤ 2 ^ 42) ⌝ }
-    ensures { λ r. ⌜ r ≡ shareOf below upto ⌝ }
+    ensures { λ r. ⌜ r ≡ shareCount below upto ⌝ }
 {
     upto
 }
 
 // What all pixels count.
-fn whole_of(pixels: u64) -> u64
+fn full_count(pixels: u64) -> u64
     requires { ⌜ pixels ≤ 2 ^ 31 ⌝ }
-    ensures { λ r. ⌜ r ≡ wholeOf pixels ⌝ }
+    ensures { λ r. ⌜ r ≡ fullCount pixels ⌝ }
 {
     pixels
 }
 
-// The share of each sum, from the cumulative counts.
+// The share count of each intensity, from the cumulative counts.
 fn shares_of(counts: &[u32; 766]) -> [u64; 766]
     ensures { λ r. ⌜ r ≡ tabulate (shareAt (cumulative (now (counts .entry)))) 766 ⌝ }
 {
@@ -127,14 +127,14 @@ fn shares_of(counts: &[u32; 766]) -> [u64; 766]
     let mut s: usize = 0;
     while s < 766 {
         let upto = below + wide(counts[s]);
-        shares[s] = share(below, upto);
+        shares[s] = share_count(below, upto);
         below = upto;
         s += 1;
     }
     shares
 }
 
-// For each sum the place of the sequence nearest to scale times its share.
+// For each intensity the place of the sequence nearest to scale times its share count.
 fn nearest_entries(g: &[u64; 766], scale: u64, shares: &[u64; 766]) -> [u16; 766]
     requires { ⌜ NonDecreasing (at (now g)) × NonDecreasing (at (now shares)) ⌝ }
     requires { ⌜ AimsFit scale (now shares) ⌝ }
@@ -152,23 +152,23 @@ fn nearest_entries(g: &[u64; 766], scale: u64, shares: &[u64; 766]) -> [u16; 766
     entries
 }
 
-// 765 times a share of the whole, rounded once.
-fn equalised_entry(whole: u64, share: u64) -> u16
-    requires { ⌜ (0 < whole) × (whole ≤ 2 ^ 32) × (share ≤ whole) ⌝ }
-    ensures { λ r. ⌜ r ≡ equalisedEntry whole share ⌝ }
+// 765 times a share count over the full one, rounded once.
+fn equalised_entry(full: u64, share: u64) -> u16
+    requires { ⌜ (0 < full) × (full ≤ 2 ^ 32) × (share ≤ full) ⌝ }
+    ensures { λ r. ⌜ r ≡ equalisedEntry full share ⌝ }
 {
-    rounding::rounded(765 * share, whole) as u16
+    rounding::rounded(765 * share, full) as u16
 }
 
-// For each sum that number.
-fn equalised_entries(whole: u64, shares: &[u64; 766]) -> [u16; 766]
-    requires { ⌜ Shares whole (now shares) ⌝ }
-    ensures { λ r. ⌜ r ≡ tabulate (λ s. equalisedEntry whole (at (now (shares .entry)) s)) 766 ⌝ }
+// For each intensity that number.
+fn equalised_entries(full: u64, shares: &[u64; 766]) -> [u16; 766]
+    requires { ⌜ SharesFit full (now shares) ⌝ }
+    ensures { λ r. ⌜ r ≡ tabulate (λ s. equalisedEntry full (at (now (shares .entry)) s)) 766 ⌝ }
 {
     let mut entries = [0u16; 766];
     let mut s: usize = 0;
     while s < 766 {
-        entries[s] = equalised_entry(whole, shares[s]);
+        entries[s] = equalised_entry(full, shares[s]);
         s += 1;
     }
     entries
@@ -189,14 +189,14 @@ pub fn tone_curve(choice: Choice, pixels: u32, counts: &[u32; 766]) -> [u16; 766
     requires { ⌜ HistogramOf pixels (now counts) ⌝ }
     ensures { λ r. ⌜ r ≡ toneCurve choice pixels (cumulative (now (counts .entry))) ⌝ }
 {
-    let whole = whole_of(pixels as u64);
+    let full = full_count(pixels as u64);
     let shares = shares_of(counts);
     match choice {
         Choice::Cube => {
             let cube = targets::table();
-            let scaled = scaled_by(whole, cube);
+            let scaled = scaled_by(full, cube);
             with_ends(nearest_entries(&scaled, cube[765], &shares))
         }
-        Choice::Equalised => with_ends(equalised_entries(whole, &shares)),
+        Choice::Equalised => with_ends(equalised_entries(full, &shares)),
     }
 }

@@ -12,7 +12,7 @@ use Rattle.tables.proofs.Laws.{tabulate-same}
 use Rattle.targets.specs.Cube.{G}
 use Rattle.pixel.specs.Move.{intensity}
 use Rattle.pixel.specs.declared.Pixel.{Pixel}
-use Rattle.curve.specs.Curve.{shareOf, wholeOf, cubeEntry, equalisedEntry, byChoice, withEnds, entry, toneCurve}
+use Rattle.curve.specs.Curve.{shareCount, fullCount, cubeEntry, equalisedEntry, byChoice, withEnds, entry, toneCurve}
 use Rattle.curve.specs.Nearest.{nearer, nearestPlace}
 use Rattle.curve.specs.declared.Choice.{Choice}
 use Rattle.curve.specs.declared.Choice.the-variants.{Cube, Equalised}
@@ -67,7 +67,7 @@ falling-levels e = refl
 -- the curve, by each choice
 pub two-pixel-curve : (choice : Choice) (i j : ℕ) → AreLevels (i ∷ j ∷ []) → (ps : List Pixel) → map intensity ps ≡ i ∷ j ∷ []
     → toneCurve choice (length ps) (countUpTo ps) ≡ threeLevels (middle choice)
-unfolding toneCurve entry withEnds shareOf wholeOf
+unfolding toneCurve entry withEnds shareCount fullCount
 two-pixel-curve choice i j levels ps same =
     let two : length ps ≡ 2 = sym (length-map ps intensity) ∙ ap length same in
     let counts : (s : ℕ) → countUpTo ps s ≡ upTo (i ∷ j ∷ []) s = λ s. count-reads ps s ∙ ap (λ (l : List ℕ). upTo l s) same in

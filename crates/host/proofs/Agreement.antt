@@ -8,21 +8,17 @@ use borrow.Author.Tests.{eq-eqb, ne-eqb, le-ltb}
 use lib.ListN.{length}
 use Rattle.pixel.specs.Methods.{isMethod}
 use Rattle.pixel.specs.Strip.{isWhole, Bytes}
-use Rattle.curve.specs.Curve.{IsToneCurve}
-use Rattle.shot.specs.Inner.{WholeShot}
-use Rattle.shot.specs.Shot.{pixelLimit, opened, measured, fixedWith, curveOf, coloured}
-use Rattle.shot.proofs.OneStrip.{strip-accepted, fix-accepted, is-fixed, curve-is, curve-shape}
+use Rattle.measuring.specs.Histogram.{pixelLimit}
+use Rattle.curve.specs.Curve.{curveOf, IsToneCurve}
+use Rattle.strip_curve.proofs.Laws.{strip-shape}
+use Rattle.curve_bytes.specs.CurveBytes.{curveLength, curveBytes, curveEntries, keepsCurveRule}
+use Rattle.curve_bytes.proofs.CurveBytes.{length-bytes, read-back, curve-complete}
+use Rattle.shot.specs.Shot.{opened, measured, fixedWith, coloured}
+use Rattle.shot.proofs.OneStrip.{WholeShot, strip-accepted, fix-accepted, is-fixed, curve-is}
 use Rattle.shot.proofs.Passed.{measure-passed, fix-passed}
 use Rattle.host.specs.Agreement.{measureAnswer, fixAnswer, Accepted, colourBy, HostFollowsShot}
-use Rattle.host.specs.CurveBytes.{curveLength, curveBytes, curveEntries, keepsCurveRule}
 use Rattle.host.specs.Host.{CurveCall, curveOutcome, colourOutcome}
-use Rattle.host.proofs.CurveBytes.{length-bytes, read-back, curve-complete}
-use Rattle.host.proofs.Passed.{curve-passed}
-
--- an accepted curve call passed its checks
-pub accepted : (c : CurveCall) → Accepted c → (length (c .curve) ≡ curveLength) × WholeShot (length (c .strip)) (c .choice)
-unfolding curveOutcome
-accepted c e = curve-passed (c .choice) (length (c .curve)) (length (c .strip)) e
+use Rattle.host.proofs.Passed.{HostCurveAccepted, curve-passed}
 
 -- the bytes that it writes
 bytes-are : (c : CurveCall) → Accepted c → curveOutcome c .bytes ≡ curveBytes (curveOf (c .choice) (c .strip ∷ []))
@@ -30,8 +26,17 @@ unfolding curveOutcome
 bytes-are c e = simp (eq-eqb (curveOutcome c .number) 0 e)
 
 module _ (c : CurveCall) (bytes : Bytes (c .strip)) (e : Accepted c) where
+  passed : HostCurveAccepted c
+  passed = curve-passed c e
+
   ok : WholeShot (length (c .strip)) (c .choice)
-  ok = accepted c e .1
+  ok =
+      record {
+        known = passed .known;
+        whole = passed .strip .whole;
+        some = passed .strip .some;
+        limit = passed .strip .limit;
+      }
 
   measures : measureAnswer c .number ≡ 0
   measures = strip-accepted (c .strip) bytes (c .choice) ok
@@ -46,7 +51,7 @@ module _ (c : CurveCall) (bytes : Bytes (c .strip)) (e : Accepted c) where
   same-curve = curve-is (c .strip) bytes (c .choice) ok
 
   shape : IsToneCurve (curveOf (c .choice) (c .strip ∷ []))
-  shape = curve-shape (c .strip) bytes (c .choice) ok
+  shape = strip-shape (c .strip) (passed .strip) bytes (c .choice)
 
   -- it writes the shot's curve
   writes : curveOutcome c .bytes ≡ curveBytes (fixAnswer c .shot .curve)

@@ -1,4 +1,3 @@
-pub mod CurveBytes
 pub mod Passed
 pub mod Outcomes
 pub mod Agreement

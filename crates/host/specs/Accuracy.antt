@@ -1,16 +1,14 @@
 -- Demand 3 for host colourings (document 01, "The panel's host"): "For every accepted one the mission's demand 3 reads the curve handed
 -- in, and pixels coloured by equal curves, in whichever host colourings, count as of the same shot."
-use mathlib.Core.Bool.{cond}
-use mathlib.Core.List.{List, []}
+use mathlib.Core.List.{List}
 use mathlib.Core.Path.{_≡_}
-use lib.Dec.{eqb}
 use lib.ListN.{length}
 use Rattle.tables.specs.Table.{_among_}
 use Rattle.pixel.specs.Methods.{methodOf}
 use Rattle.pixel.specs.Strip.{Bytes}
 use Rattle.curve.specs.Curve.{IsToneCurve}
-use Rattle.colouring.specs.Written.{Written, WrittenExact, WrittenAccurate, pixelsWritten, AtMostTwoBelow}
-use Rattle.host.specs.CurveBytes.{curveEntries}
+use Rattle.curve_bytes.specs.CurveBytes.{curveEntries}
+use Rattle.colouring.specs.Written.{Written, AtMostTwoBelow, Colouring, writtenBy, ColouringAccurate}
 use Rattle.host.specs.Host.{CurveCall, curveOutcome, ColourCall, colourOutcome}
 
 -- What holds of a curve call.
@@ -21,31 +19,30 @@ pub record CurveAccurate (c : CurveCall) : Type 0 where
   -- an accepted one leaves a tone curve in it
   pub shape : curveOutcome c .number ≡ 0 → IsToneCurve (curveEntries (curveOutcome c .bytes))
 
--- The pixels that a host colouring writes: those of an accepted one, each with the entry, for its sum, of the curve handed in. A refused
--- one writes none.
-abbrev pub written : ColourCall → List Written
-written c =
-    cond (eqb (colourOutcome c .number) 0)
-    (pixelsWritten (methodOf (c .method)) (curveEntries (c .curve)) (c .source) (colourOutcome c .bytes))
-    []
+-- A host colouring, as one that was answered: by the curve handed in.
+abbrev pub colouringOf : ColourCall → Colouring
+colouringOf c =
+    record {
+      number = colourOutcome c .number;
+      method = methodOf (c .method);
+      curve = curveEntries (c .curve);
+      source = c .source;
+      before = c .destination;
+      after = colourOutcome c .bytes;
+    }
 
--- What holds of a host colouring.
-pub record ColouringAccurate (c : ColourCall) : Type 0 where
-  -- the curve of an accepted one has 766 entries, the first 0 and the last 765, none above 765 and none less than the one before
-  pub shape : colourOutcome c .number ≡ 0 → IsToneCurve (curveEntries (c .curve))
-  -- it leaves the destination as long as it was, and a refused one leaves every byte of it
-  pub size : length (colourOutcome c .bytes) ≡ length (c .destination)
-  pub untouched : (colourOutcome c .number ≡ 0 → ⊥) → colourOutcome c .bytes ≡ c .destination
-  -- every pixel written is the source pixel, moved to the entry by the method (demand 2)
-  pub exact : (w : Written) → w among written c → WrittenExact w
-  -- "every pixel written keeps four rules"
-  pub rules : (w : Written) → w among written c → WrittenAccurate w
+-- The pixels that it writes.
+abbrev pub written : ColourCall → List Written
+written c = writtenBy (colouringOf c)
 
 -- Claim: demand 3 for the host. Strips and sources are bytes; all else that a call brings is any.
 -- Proved: proofs/Accuracy.antt, `host-accurate`.
 pub record HostAccurate : Type 0 where
   pub curves : (c : CurveCall) → Bytes (c .strip) → CurveAccurate c
-  pub colourings : (c : ColourCall) → Bytes (c .source) → ColouringAccurate c
+  -- the curve of an accepted colouring has 766 entries, the first 0 and the last 765, none above 765 and none less than the one before
+  pub shapes : (c : ColourCall) → colourOutcome c .number ≡ 0 → IsToneCurve (curveEntries (c .curve))
+  -- what holds of every colouring: size, bytes left, exactness and rules
+  pub colourings : (c : ColourCall) → Bytes (c .source) → ColouringAccurate (colouringOf c)
   -- "and of any two pixels of the same shot, whichever colourings and methods wrote them, the one whose input sum is no smaller has
   -- a sum at most two below the other's": here, pixels coloured by equal curves
   pub order : (c d : ColourCall) → Bytes (c .source) → Bytes (d .source) → curveEntries (c .curve) ≡ curveEntries (d .curve)

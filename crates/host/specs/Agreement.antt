@@ -6,9 +6,9 @@ use Prim.Native.Nat.{ℕ}
 use lib.ListN.{length}
 use Rattle.pixel.specs.Methods.{isMethod}
 use Rattle.pixel.specs.Strip.{isWhole, Bytes}
+use Rattle.curve_bytes.specs.CurveBytes.{curveLength, curveBytes}
 use Rattle.shot.specs.Shot.{opened, measured, fixedWith, coloured}
 use Rattle.shot.specs.declared.Answer.{Answer}
-use Rattle.host.specs.CurveBytes.{curveLength, curveBytes}
 use Rattle.host.specs.Host.{CurveCall, curveOutcome, ColourCall, colourOutcome}
 
 -- What an opened shot's measuring of the call's strip hands back.
@@ -28,7 +28,7 @@ abbrev pub colourBy : CurveCall → ℕ → List ℕ → List ℕ → ColourCall
 colourBy c method source destination =
     record { curve = curveOutcome c .bytes; method = method; source = source; destination = destination }
 
--- Claim: so the host's calls agree with a shot's. Proved: proofs/Agreement.antt, `host-follows-shot`.
+-- Claim: the host's calls do what a shot's do. Proved: proofs/Agreement.antt, `host-follows-shot`.
 pub record HostFollowsShot : Type 0 where
   -- with a run of 1,532 bytes, the curve call accepts exactly what measuring and fixing a newly opened shot accept
   pub measures : (c : CurveCall) → Bytes (c .strip) → Accepted c → measureAnswer c .number ≡ 0

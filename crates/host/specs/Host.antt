@@ -7,10 +7,11 @@ use lib.ListN.{length}
 use Rattle.refusal.specs.Refusal.{Check, _refuses_, firstOf, ifAccepted}
 use Rattle.pixel.specs.Methods.{isMethod, methodOf}
 use Rattle.pixel.specs.Strip.{isWhole}
+use Rattle.measuring.specs.Histogram.{pixelLimit}
 use Rattle.curve.specs.Choices.{isChoice}
+use Rattle.curve.specs.Curve.{curveOf}
+use Rattle.curve_bytes.specs.CurveBytes.{curveLength, curveBytes, curveEntries, keepsCurveRule}
 use Rattle.colouring.specs.Colouring.{colouredStrip}
-use Rattle.shot.specs.Shot.{pixelLimit, curveOf}
-use Rattle.host.specs.CurveBytes.{curveLength, curveBytes, curveEntries, keepsCurveRule}
 
 -- What a call leaves: the number that it hands back, and what the run lent for writing then holds.
 pub record Outcome : Type 0 where
@@ -29,20 +30,17 @@ pub record CurveCall : Type 0 where
 
 -- Host curve 4, 10, 2, 5, 3. 4: the curve choice is not 1 or 2. 10: a curve's bytes are not 1,532 long. 2: the strip's length is not a
 -- multiple of 3. 5: an empty strip. 3: the pixels would exceed the limit.
-abbrev pub curveRefusals : Bool → Bool → Bool → Bool → Bool → List Check
-curveRefusals known sized whole empty over =
+abbrev pub curveChecks : Bool → Bool → Bool → Bool → Bool → List Check
+curveChecks known sized whole empty over =
     not known refuses 4 ∷ not sized refuses 10 ∷ not whole refuses 2 ∷ empty refuses 5 ∷ over refuses 3 ∷ []
-
--- The same, from the choice and the lengths of curve and strip.
-abbrev pub curveChecks : ℕ → ℕ → ℕ → List Check
-curveChecks choice curveSize stripSize =
-    curveRefusals (isChoice choice) (eqb curveSize curveLength) (isWhole stripSize) (eqb stripSize 0)
-    (ltb pixelLimit (stripSize / 3))
 
 -- "One call takes a strip and a choice and writes the curve of that strip taken as a whole shot": the book's curve of this one strip.
 unfoldable pub curveOutcome : CurveCall → Outcome
 curveOutcome c =
-    outcomeOf (firstOf (curveChecks (c .choice) (length (c .curve)) (length (c .strip))))
+    outcomeOf
+    (firstOf
+    (curveChecks (isChoice (c .choice)) (eqb (length (c .curve)) curveLength) (isWhole (length (c .strip))) (eqb (length (c .strip)) 0)
+    (ltb pixelLimit (length (c .strip) / 3))))
     (curveBytes (curveOf (c .choice) (c .strip ∷ [])))
     (c .curve)
 
@@ -53,25 +51,18 @@ pub record ColourCall : Type 0 where
   pub source : List ℕ
   pub destination : List ℕ
 
--- Host colour 11, 7, 2, 8. 11: the curve breaks the rule. 7: the method is not 1 or 2. 2: the source's length is not a multiple of 3.
--- 8: destination and source differ in length.
-abbrev pub colourRefusals : Bool → Bool → Bool → Bool → List Check
-colourRefusals ruled known whole same =
-    not ruled refuses 11 ∷ not known refuses 7 ∷ not whole refuses 2 ∷ not same refuses 8 ∷ []
-
--- The same, from the curve's entries, the method and the lengths of source and destination.
-abbrev pub entriesChecks : List ℕ → ℕ → ℕ → ℕ → List Check
-entriesChecks entries method sourceSize destinationSize =
-    colourRefusals (keepsCurveRule entries) (isMethod method) (isWhole sourceSize) (eqb destinationSize sourceSize)
-
--- Before them 10, so that the order is 10, 11, 7, 2, 8: a curve's bytes are not 1,532 long.
-abbrev pub colourChecks : List ℕ → ℕ → ℕ → ℕ → List Check
-colourChecks curve method sourceSize destinationSize =
-    not (eqb (length curve) curveLength) refuses 10 ∷ entriesChecks (curveEntries curve) method sourceSize destinationSize
+-- Host colour 10, 11, 7, 2, 8. 10: a curve's bytes are not 1,532 long. 11: the curve breaks the rule. 7: the method is not 1 or 2. 2: the
+-- source's length is not a multiple of 3. 8: destination and source differ in length.
+abbrev pub colourChecks : Bool → Bool → Bool → Bool → Bool → List Check
+colourChecks sized ruled known whole same =
+    not sized refuses 10 ∷ not ruled refuses 11 ∷ not known refuses 7 ∷ not whole refuses 2 ∷ not same refuses 8 ∷ []
 
 -- "The other takes a curve, a method, a source and a destination and colours."
 unfoldable pub colourOutcome : ColourCall → Outcome
 colourOutcome c =
-    outcomeOf (firstOf (colourChecks (c .curve) (c .method) (length (c .source)) (length (c .destination))))
+    outcomeOf
+    (firstOf
+    (colourChecks (eqb (length (c .curve)) curveLength) (keepsCurveRule (curveEntries (c .curve))) (isMethod (c .method))
+    (isWhole (length (c .source))) (eqb (length (c .destination)) (length (c .source)))))
     (colouredStrip (methodOf (c .method)) (curveEntries (c .curve)) (c .source))
     (c .destination)

@@ -1,4 +1,3 @@
-pub mod CurveBytes
 pub mod Host
 pub mod Agreement
 pub mod Accuracy

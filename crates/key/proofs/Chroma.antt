@@ -6,21 +6,21 @@ use native.Mathlib.Nat.{le-refl, le-trans, mul-comm, mul-one, add-mul}
 use native.Mathlib.Omega.{arith}
 use Rattle.rounding.specs.Fraction.{Fraction, whole, _⊗_, Within}
 use Rattle.tables.proofs.Cases.{either}
-use Rattle.pixel.specs.Accuracy.{withinOneStep}
+use Rattle.pixel.specs.Accuracy.{withinSteps, KeepsDifferences}
 use Rattle.pixel.specs.Move.{Channel, Channel.red, Channel.green, Channel.blue, sample}
 use Rattle.pixel.specs.declared.Pixel.{Pixel}
-use Rattle.key.specs.Hue.{greatest, least, chroma, KeepsDifferences}
+use Rattle.key.specs.Hue.{greatest, least, chroma}
 
 -- a difference that is kept, where no subtraction is cut off
-module _ (k : Fraction) {x y x' y' : ℕ} (le : y ≤ x) (le' : y' ≤ x') (kept : withinOneStep k x y x' y') where
+module _ (w : ℕ) (k : Fraction) {x y x' y' : ℕ} (le : y ≤ x) (le' : y' ≤ x') (kept : withinSteps w k x y x' y') where
   products : (n : ℕ) → (x * n ≡ (x - y) * n + y * n) × (x' * n ≡ (x' - y') * n + y' * n)
   products n =
       (ap (λ (t : ℕ). t * n) (omega arith) ∙ add-mul (x - y) y n, ap (λ (t : ℕ). t * n) (omega arith) ∙ add-mul (x' - y') y' n)
 
-  pub not-above : (x' - y') * k .den < (x - y) * k .num + k .den
+  pub not-above : (x' - y') * k .den < (x - y) * k .num + w * k .den
   not-above = omega (arith, kept .0, products (k .num) .0, products (k .den) .1)
 
-  pub not-below : (x - y) * k .num < (x' - y') * k .den + k .den
+  pub not-below : (x - y) * k .num < (x' - y') * k .den + w * k .den
   not-below = omega (arith, kept .1, products (k .num) .0, products (k .den) .1)
 
 -- the chroma of a pixel whose greatest and least sample are known
@@ -78,8 +78,8 @@ module _ (p : Pixel) {lo hi : Channel} (e : Ends p lo hi) where
   chroma-between : chroma p ≡ sample p hi - sample p lo
   chroma-between = spread-is p greatest-is least-is
 
--- What a pixel written from p keeps, where it keeps differences by the factor k.
-module _ (k : Fraction) (p q : Pixel) (d : KeepsDifferences k p q) where
+-- What a pixel written from p keeps, where it keeps differences by the factor k to less than w steps.
+module _ (w : ℕ) (k : Fraction) (p q : Pixel) (d : KeepsDifferences w k p q) where
   -- the ends stay where they are
   same-ends : {lo hi : Channel} → Ends p lo hi → Ends q lo hi
   same-ends {lo} {hi} e = record { lowest = λ a. d .order lo a (e .lowest a); highest = λ a. d .order a hi (e .highest a) }
@@ -89,14 +89,14 @@ module _ (k : Fraction) (p q : Pixel) (d : KeepsDifferences k p q) where
       let (lo, hi, e) = has-ends p in
       omega (arith, chroma-between p e, chroma-between q (same-ends e), d .order hi lo (omega (arith, chroma-between p e)))
 
-  pub keeps-chroma : Within (whole 1) (whole (chroma q)) (k ⊗ whole (chroma p))
+  pub keeps-chroma : Within (whole w) (whole (chroma q)) (k ⊗ whole (chroma p))
   keeps-chroma =
       let (lo, hi, e) = has-ends p in
       let kept = d .difference hi lo in
       let c : chroma p ≡ sample p hi - sample p lo = chroma-between p e in
       let c' : chroma q ≡ sample q hi - sample q lo = chroma-between q (same-ends e) in
-      let above : chroma q * k .den < chroma p * k .num + k .den = rw (c, c') (not-above k (e .lowest hi) (same-ends e .lowest hi) kept) in
-      let below : chroma p * k .num < chroma q * k .den + k .den = rw (c, c') (not-below k (e .lowest hi) (same-ends e .lowest hi) kept) in (
+      let above : chroma q * k .den < chroma p * k .num + w * k .den = rw (c, c') (not-above w k (e .lowest hi) (same-ends e .lowest hi) kept) in
+      let below : chroma p * k .num < chroma q * k .den + w * k .den = rw (c, c') (not-below w k (e .lowest hi) (same-ends e .lowest hi) kept) in (
         omega (arith, above, mul-comm (chroma p) (k .num), ap (λ (t : ℕ). chroma q * t) (mul-one (k .den))),
-        omega (arith, below, mul-comm (chroma p) (k .num), ap (λ (t : ℕ). (chroma q + 1) * t) (mul-one (k .den)), add-mul (chroma q) 1 (k .den)),
+        omega (arith, below, mul-comm (chroma p) (k .num), ap (λ (t : ℕ). (chroma q + w) * t) (mul-one (k .den)), add-mul (chroma q) w (k .den)),
       )

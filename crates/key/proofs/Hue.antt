@@ -7,10 +7,11 @@ use native.Mathlib.Omega.{arith}
 use borrow.Author.Tests.{le-leb, lt-leb, eq-eqb, ne-eqb}
 use Rattle.rounding.specs.Fraction.{Fraction, whole, _over_, _⊕_, _≺_, Within}
 use Rattle.tables.proofs.Cases.{either}
+use Rattle.pixel.specs.Accuracy.{KeepsDifferences}
 use Rattle.pixel.specs.Move.{Channel, Channel.red, Channel.green, Channel.blue, sample}
 use Rattle.pixel.specs.declared.Pixel.{Pixel}
 use Rattle.key.proofs.Chroma.{not-above, not-below, spread-is, grey-stays}
-use Rattle.key.specs.Hue.{greatest, chroma, sixths, hue, hueBound, HuesAreAngles, KeepsAngle, AnglesWithin, MiddleKept, KeepsMiddle, KeepsDifferences, DifferencesKeepHue}
+use Rattle.key.specs.Hue.{greatest, chroma, sixths, hue, hueBound, HuesAreAngles, KeepsAngle, AnglesWithin, MiddleKept, KeepsMiddle, DifferencesKeepHue}
 
 -- The law, over samples and fractions. Two neighbouring differences m and n come out as u and v, each kept by the factor num / den to less
 -- than w parts of a step; then u / m and v / n cannot part by more than that.
@@ -26,13 +27,15 @@ cross num den w m n u v first second some =
     let right : m * v * den ≡ v * den * m = simp (mul-assoc, mul-comm, mul-left-comm) in
     omega (arith, add-mul m n w, mul-comm m w, mul-comm n w)
 
--- with a full step
-crossed : (num den m n u v : ℕ) → 0 < den → u * den < m * num + den → n * num < v * den + den → 0 < m + n → u * n < m * v + (m + n)
-crossed num den m n u v positive first second some =
-    lt-of-mul-lt-mul-right den (omega (arith, cross num den den m n u v first second some, add-mul (m * v) (m + n) den))
+-- with w full steps
+crossed : (w num den m n u v : ℕ) → 0 < den → u * den < m * num + w * den → n * num < v * den + w * den → 0 < m + n
+    → u * n < m * v + w * (m + n)
+crossed w num den m n u v positive first second some =
+    let same : (m + n) * (w * den) ≡ w * (m + n) * den = simp (mul-assoc, mul-comm, mul-left-comm) in
+    lt-of-mul-lt-mul-right den (omega (arith, cross num den (w * den) m n u v first second some, add-mul (m * v) (w * (m + n)) den))
 
-keeps-middle : (k : Fraction) (p q : Pixel) → KeepsDifferences k p q → KeepsMiddle p q
-keeps-middle k p q d lo mid hi l u s =
+keeps-middle : (w : ℕ) (k : Fraction) (p q : Pixel) → KeepsDifferences w k p q → KeepsMiddle w p q
+keeps-middle w k p q d lo mid hi l u s =
     let l' = d .order lo mid l in
     let u' = d .order mid hi u in
     let lower = d .difference mid lo in
@@ -43,8 +46,9 @@ keeps-middle k p q d lo mid hi l u s =
     let n' = sample q hi - sample q mid in
     let total : sample p hi - sample p lo ≡ m + n = omega arith in
     let total' : sample q hi - sample q lo ≡ m' + n' = omega arith in
-    let more = crossed (k .num) (k .den) m n m' n' (d .denominator) (not-above k l l' lower) (not-below k u u' upper) (omega arith) in
-    let fewer = crossed (k .num) (k .den) n m n' m' (d .denominator) (not-above k u u' upper) (not-below k l l' lower) (omega arith) in
+    let more = crossed w (k .num) (k .den) m n m' n' (d .denominator) (not-above w k l l' lower) (not-below w k u u' upper) (omega arith) in
+    let fewer = crossed w (k .num) (k .den) n m n' m' (d .denominator) (not-above w k u u' upper) (not-below w k l l' lower) (omega arith) in
+    let turned : w * (n + m) ≡ w * (m + n) = ap (λ (t : ℕ). w * t) (omega arith) in
     let product : m' * (m + n) ≡ m' * m + m' * n = mul-add m' m n in
     let product' : m * (m' + n') ≡ m * m' + m * n' = mul-add m m' n' in
     record {
@@ -54,24 +58,24 @@ keeps-middle k p q d lo mid hi l u s =
       below = rw (total, total') (omega (arith, fewer, mul-comm m m', mul-comm m n', mul-comm n m'));
     }
 
--- Angles: x / c and y / c' sixths of a turn are less than 1 / c' apart, both sides times c × c'.
-within : (x y c c' : ℕ) → 0 < c' → x * c' < y * c + c → y * c < x * c' + c → Within (hueBound c') (sixths x c) (sixths y c')
-within x y c c' positive first second =
-    let one : x * c' * (60 * c') < (y * c + c) * (60 * c') = mul-lt-mul-of-pos-right first (omega arith) in
-    let two : y * c * (60 * c') < (x * c' + c) * (60 * c') = mul-lt-mul-of-pos-right second (omega arith) in
+-- Angles: x / c and y / c' sixths of a turn are less than w / c' apart, both sides times c × c'.
+within : (w x y c c' : ℕ) → 0 < c' → x * c' < y * c + w * c → y * c < x * c' + w * c → Within (hueBound w c') (sixths x c) (sixths y c')
+within w x y c c' positive first second =
+    let one : x * c' * (60 * c') < (y * c + w * c) * (60 * c') = mul-lt-mul-of-pos-right first (omega arith) in
+    let two : y * c * (60 * c') < (x * c' + w * c) * (60 * c') = mul-lt-mul-of-pos-right second (omega arith) in
     (subst₂ _<_ ac₁ ac₂ one, subst₂ _<_ ac₃ ac₄ two)
   where
     ac₁ : x * c' * (60 * c') ≡ 60 * x * (c' * c')
     ac₁ = simp (mul-assoc, mul-left-comm)
 
-    ac₂ : (y * c + c) * (60 * c') ≡ (60 * y * c' + 60 * c') * c
+    ac₂ : (y * c + w * c) * (60 * c') ≡ (60 * y * c' + 60 * w * c') * c
     ac₂ = simp (add-mul, mul-assoc, mul-comm, mul-left-comm)
 
     ac₃ : y * c * (60 * c') ≡ 60 * y * (c * c')
     ac₃ = simp (mul-assoc, mul-left-comm)
 
-    ac₄ : (x * c' + c) * (60 * c') ≡ (60 * x * c' + 60 * c) * c'
-    ac₄ = simp (add-mul, mul-assoc, mul-left-comm)
+    ac₄ : (x * c' + w * c) * (60 * c') ≡ (60 * x * c' + 60 * w * c) * c'
+    ac₄ = simp (add-mul, mul-assoc, mul-comm, mul-left-comm)
 
 -- Places on the circle, in parts of a sixth that has c of them: m parts after k sixths, and m parts before.
 abbrev after : ℕ → ℕ → ℕ → ℕ
@@ -83,26 +87,26 @@ before k c m = k * c - m
 -- Where the middle sample is kept, such a place is.
 abbrev Steady : (ℕ → ℕ → ℕ) → Type 0
 Steady place =
-    (m c m' c' : ℕ) → 0 < c' → m ≤ c → m' ≤ c' → m' * c < m * c' + c → m * c' < m' * c + c
-    → Within (hueBound c') (sixths (place c m) c) (sixths (place c' m') c')
+    (w m c m' c' : ℕ) → 0 < c' → m ≤ c → m' ≤ c' → m' * c < m * c' + w * c → m * c' < m' * c + w * c
+    → Within (hueBound w c') (sixths (place c m) c) (sixths (place c' m') c')
 
 -- k sixths, over either chroma
 whole-sixths : (k c c' : ℕ) → k * c * c' ≡ k * c' * c
 whole-sixths k c c' = simp (mul-assoc, mul-comm)
 
 after-steady : (k : ℕ) → Steady (after k)
-after-steady k m c m' c' some fits fits' above below =
+after-steady k w m c m' c' some fits fits' above below =
     let product : after k c m * c' ≡ k * c * c' + m * c' = add-mul (k * c) m c' in
     let product' : after k c' m' * c ≡ k * c' * c + m' * c = add-mul (k * c') m' c in
-    within (after k c m) (after k c' m') c c' some (omega (arith, whole-sixths k c c')) (omega (arith, whole-sixths k c c'))
+    within w (after k c m) (after k c' m') c c' some (omega (arith, whole-sixths k c c')) (omega (arith, whole-sixths k c c'))
 
 before-steady : (k : ℕ) → 0 < k → Steady (before k)
-before-steady k positive m c m' c' some fits fits' above below =
+before-steady k positive w m c m' c' some fits fits' above below =
     let product : k * c * c' ≡ before k c m * c' + m * c' =
     ap (λ (t : ℕ). t * c') (omega (arith, mul-le-mul-right c positive)) ∙ add-mul (before k c m) m c' in
     let product' : k * c' * c ≡ before k c' m' * c + m' * c =
     ap (λ (t : ℕ). t * c) (omega (arith, mul-le-mul-right c' positive)) ∙ add-mul (before k c' m') m' c in
-    within (before k c m) (before k c' m') c c' some (omega (arith, whole-sixths k c c')) (omega (arith, whole-sixths k c c'))
+    within w (before k c m) (before k c' m') c c' some (omega (arith, whole-sixths k c c')) (omega (arith, whole-sixths k c c'))
 
 -- The lines of hue.
 module _ (p : Pixel) where
@@ -219,16 +223,16 @@ module _ (p : Pixel) (some : 0 < chroma p) where
   }
 
 -- The order of the channels stays, so both pixels lie in the same sixth of the circle, and the middle sample decides.
-module _ (p q : Pixel) (some : 0 < chroma p) (some' : 0 < chroma q) (middle : KeepsMiddle p q) where
-  same-sixth : {lo mid hi : Channel} {place : ℕ → ℕ → ℕ} {h h' : Fraction} → Steady place → MiddleKept p q lo mid hi → sample p mid ≤ sample p hi
-      → Placed p lo mid hi place h → Placed q lo mid hi place h' → Within (hueBound (chroma q)) h h'
+module _ (w : ℕ) (p q : Pixel) (some : 0 < chroma p) (some' : 0 < chroma q) (middle : KeepsMiddle w p q) where
+  same-sixth : {lo mid hi : Channel} {place : ℕ → ℕ → ℕ} {h h' : Fraction} → Steady place → MiddleKept w p q lo mid hi → sample p mid ≤ sample p hi
+      → Placed p lo mid hi place h → Placed q lo mid hi place h' → Within (hueBound w (chroma q)) h h'
   same-sixth {lo} {mid} {hi} steady kept u at at' =
-      subst₂ (Within (hueBound (chroma q))) (sym (at .angle)) (sym (at' .angle))
-      (steady _ (chroma p) _ (chroma q) some' (omega (arith, at .spread)) (omega (arith, at' .spread, kept .upper))
+      subst₂ (Within (hueBound w (chroma q))) (sym (at .angle)) (sym (at' .angle))
+      (steady w _ (chroma p) _ (chroma q) some' (omega (arith, at .spread)) (omega (arith, at' .spread, kept .upper))
       (rw (at .spread, at' .spread) (kept .above))
       (rw (at .spread, at' .spread) (kept .below)))
 
-  angles-within : AnglesWithin (hueBound (chroma q)) (hue p) (hue q)
+  angles-within : AnglesWithin (hueBound w (chroma q)) (hue p) (hue q)
   angles-within =
       either (p .g) (p .r)
       (λ gr.
@@ -266,11 +270,11 @@ module _ (p q : Pixel) (some : 0 < chroma p) (some' : 0 < chroma q) (middle : Ke
       let kept = middle red green blue (omega arith) (omega arith) rb in
       inl (same-sixth (before-steady 4 (omega arith)) kept (omega arith) at (to-blue q some' (kept .lower) (kept .upper))))))
 
-keeps-angle : (k : Fraction) (p q : Pixel) → KeepsDifferences k p q → KeepsAngle p q
-keeps-angle k p q d some' =
+keeps-angle : (w : ℕ) (k : Fraction) (p q : Pixel) → KeepsDifferences w k p q → KeepsAngle w p q
+keeps-angle w k p q d some' =
     either (chroma p) 0
-    (λ none. absurd (omega (arith, grey-stays k p q d (omega arith))))
-    (λ some. angles-within p q some some' (keeps-middle k p q d))
+    (λ none. absurd (omega (arith, grey-stays w k p q d (omega arith))))
+    (λ some. angles-within w p q some some' (keeps-middle w k p q d))
 
 pub differences-keep-hue : DifferencesKeepHue
-differences-keep-hue k p q d = record { angle = keeps-angle k p q d; middle = keeps-middle k p q d }
+differences-keep-hue w k p q d = record { angle = keeps-angle w k p q d; middle = keeps-middle w k p q d }

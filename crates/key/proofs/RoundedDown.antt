@@ -5,10 +5,10 @@ use native.Mathlib.Nat.{add-mul, mul-comm, mul-le-mul-right, div-mul-le-self, lt
 use native.Mathlib.Omega.{arith}
 use Rattle.rounding.specs.Fraction.{_over_}
 use Rattle.rounding.proofs.Laws.{less-step}
+use Rattle.pixel.specs.Accuracy.{KeepsDifferences}
 use Rattle.pixel.specs.Move.{Channel, sample, intensity}
 use Rattle.pixel.specs.declared.Pixel.{Pixel}
 use Rattle.pixel.proofs.Channels.{sample-each}
-use Rattle.key.specs.Hue.{KeepsDifferences}
 use Rattle.key.specs.RoundedDown.{roundedDown, KeptRoundingDown, RoundingDownKeepsHue}
 use Rattle.key.proofs.Hue.{differences-keep-hue}
 
@@ -26,7 +26,7 @@ module _ (p : Pixel) (f : ℕ) (light : 0 < intensity p) where
   written : (a : Channel) → sample (roundedDown p f) a ≡ sample p a * f / s
   written a = sample-each (λ c. c * f / s) p a
 
-  keeps-differences : KeepsDifferences (f over s) p (roundedDown p f)
+  keeps-differences : KeepsDifferences 1 (f over s) p (roundedDown p f)
   keeps-differences = record {
     denominator = light;
     order = λ a b l. rw (written a, written b) (in-order (sample p a) (sample p b) l);
@@ -36,29 +36,29 @@ module _ (p : Pixel) (f : ℕ) (light : 0 < intensity p) where
       in-order : (x y : ℕ) → x ≤ y → x * f / s ≤ y * f / s
       in-order x y l = less-step (x * f / s) (y * f / s) s (omega (arith, down-above x, down-below y, mul-le-mul-right f l))
 
-      step : (x y : ℕ) → x * f / s * s + y * f < y * f / s * s + x * f + s
+      step : (x y : ℕ) → x * f / s * s + y * f < y * f / s * s + x * f + 1 * s
       step x y = omega (arith, down-above x, down-below y)
 
   -- the three fractions add up to the target
   total : p .r * f + p .g * f + p .b * f ≡ f * s
   total = omega (arith, add-mul (p .r + p .g) (p .b) f, add-mul (p .r) (p .g) f, mul-comm f s)
 
-  abbrev sum : ℕ
-  sum = intensity (roundedDown p f)
+  abbrev out : ℕ
+  out = intensity (roundedDown p f)
 
-  parts : sum * s ≡ p .r * f / s * s + p .g * f / s * s + p .b * f / s * s
+  parts : out * s ≡ p .r * f / s * s + p .g * f / s * s + p .b * f / s * s
   parts =
       omega (arith, add-mul (p .r * f / s + p .g * f / s) (p .b * f / s) s, add-mul (p .r * f / s) (p .g * f / s) s)
 
   kept-rounding-down : KeptRoundingDown p f
   kept-rounding-down = record {
-    hue = differences-keep-hue (f over s) p (roundedDown p f) keeps-differences;
-    sumAbove =
-        less-step sum f s
+    hue = differences-keep-hue 1 (f over s) p (roundedDown p f) keeps-differences;
+    intensityAbove =
+        less-step out f s
         (omega (arith, total, parts, down-above (p .r), down-above (p .g), down-above (p .b)));
-    sumBelow =
-        less-step f (sum + 2) s
-        (omega (arith, total, parts, add-mul sum 2 s, down-below (p .r), down-below (p .g), down-below (p .b)));
+    intensityBelow =
+        less-step f (out + 2) s
+        (omega (arith, total, parts, add-mul out 2 s, down-below (p .r), down-below (p .g), down-below (p .b)));
   }
 
 pub rounding-down-keeps-hue : RoundingDownKeepsHue

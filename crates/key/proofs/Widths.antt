@@ -3,9 +3,9 @@ use mathlib.Core.Path.{_≡_, sym, subst}
 use mathlib.Core.Logic.{_⊎_, inl, inr}
 use Prim.Native.Nat.{ℕ, _≤_}
 use native.Mathlib.Omega.{arith}
-use Rattle.rounding.specs.Fraction.{Fraction, _over_}
+use Rattle.rounding.specs.Fraction.{Fraction, whole, _over_}
 use Rattle.tables.proofs.Cases.{either}
-use Rattle.pixel.specs.Accuracy.{factor, PixelAccurate, OwnEnds}
+use Rattle.pixel.specs.Accuracy.{factor, KeepsDifferences, mission, PixelAccurate, OwnEnds}
 use Rattle.pixel.specs.Move.{InRange, intensity, moved}
 use Rattle.pixel.specs.Paper.{SamplesWithinHalf}
 use Rattle.pixel.specs.declared.Method.{Method}
@@ -13,27 +13,21 @@ use Rattle.pixel.specs.declared.Pixel.{Pixel}
 use Rattle.pixel.proofs.Accurate.{moves-are-accurate, ends-stay}
 use Rattle.pixel.proofs.Paper.{moves-are-within-half}
 use Rattle.pixel.proofs.Strips.{intensity-in-range}
-use Rattle.key.specs.Hue.{KeepsDifferences}
 use Rattle.key.specs.Widths.{KeyWidths, MovesKeepHue, MovesKeepWidths}
 use Rattle.key.proofs.Chroma.{grey-stays, keeps-chroma}
 use Rattle.key.proofs.Hue.{differences-keep-hue}
 
--- demand 3's rules hold the two that hue and chroma rest on
-two-rules : {k : Fraction} {f : ℕ} {p q : Pixel} → PixelAccurate k f p q → KeepsDifferences k p q
-two-rules a = record { denominator = a .denominator; order = a .order; difference = a .difference }
-
 -- a pixel that keeps the rules, and whose samples are within half a step, keeps the widths
-pub keeps-widths : (m : Method) (f : ℕ) (p q : Pixel) → PixelAccurate (factor m (intensity p) f) f p q
+pub keeps-widths : (m : Method) (f : ℕ) (p q : Pixel) → PixelAccurate mission (factor m (intensity p) f) (whole f) p q
     → SamplesWithinHalf m f p q → KeyWidths m f p q
 keeps-widths m f p q accurate half =
     let k = factor m (intensity p) f in
-    let d = two-rules accurate in
+    let d = accurate .channels in
     record {
-      hueWidth = differences-keep-hue k p q d;
-      chromaWidth = keeps-chroma k p q d;
-      sumAbove = accurate .sumAbove;
-      sumBelow = accurate .sumBelow;
-      grey = grey-stays k p q d;
+      hueWidth = differences-keep-hue 1 k p q d;
+      chromaWidth = keeps-chroma 1 k p q d;
+      intensityWidth = accurate .sum;
+      grey = grey-stays 1 k p q d;
       samples = half;
     }
 
@@ -42,10 +36,10 @@ moves-keep-widths m p f bytes le ends =
     keeps-widths m f p (moved m p f) (moves-are-accurate m p f bytes le ends) (moves-are-within-half m p f bytes le)
 
 -- Black and white stay for every target, so the rules that hue rests on hold without the ends' own targets.
-unmoved : (p : Pixel) → KeepsDifferences (1 over 1) p p
+unmoved : (p : Pixel) → KeepsDifferences 1 (1 over 1) p p
 unmoved p = record { denominator = omega arith; order = λ a b l. l; difference = λ a b. (omega arith, omega arith) }
 
-keeps-differences : (m : Method) (p : Pixel) (f : ℕ) → InRange p → f ≤ 765 → (k : Fraction) × KeepsDifferences k p (moved m p f)
+keeps-differences : (m : Method) (p : Pixel) (f : ℕ) → InRange p → f ≤ 765 → (k : Fraction) × KeepsDifferences 1 k p (moved m p f)
 keeps-differences m p f bytes le =
     either (intensity p) 0
     (λ l. at-end (inl (omega arith)))
@@ -54,10 +48,10 @@ keeps-differences m p f bytes le =
     (λ l. at-end (inr (omega (arith, intensity-in-range p bytes))))
     (λ dark.
     let own : OwnEnds p f = record { black = λ (e : intensity p ≡ 0). omega arith; white = λ (e : intensity p ≡ 765). omega arith } in
-    (_, two-rules (moves-are-accurate m p f bytes le own))))
+    (_, moves-are-accurate m p f bytes le own .channels)))
   where
-    at-end : (intensity p ≡ 0) ⊎ (intensity p ≡ 765) → (k : Fraction) × KeepsDifferences k p (moved m p f)
-    at-end e = (1 over 1, subst (KeepsDifferences (1 over 1) p) (sym (ends-stay m p f bytes e)) (unmoved p))
+    at-end : (intensity p ≡ 0) ⊎ (intensity p ≡ 765) → (k : Fraction) × KeepsDifferences 1 k p (moved m p f)
+    at-end e = (1 over 1, subst (KeepsDifferences 1 (1 over 1) p) (sym (ends-stay m p f bytes e)) (unmoved p))
 
 pub moves-keep-hue : MovesKeepHue
-moves-keep-hue m p f bytes le = let (k, d) = keeps-differences m p f bytes le in differences-keep-hue k p (moved m p f) d
+moves-keep-hue m p f bytes le = let (k, d) = keeps-differences m p f bytes le in differences-keep-hue 1 k p (moved m p f) d

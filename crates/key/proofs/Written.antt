@@ -23,7 +23,7 @@ use Rattle.book.specs.Accuracy.{requested, entries}
 use Rattle.book.specs.Book.{Call, Call.opening, Call.measuring, Call.fixing, Call.colouring}
 use Rattle.book.specs.Run.{number, WellFormed}
 use Rattle.book.proofs.Accuracy.{accuracy, step-brings}
-use Rattle.host.specs.CurveBytes.{curveEntries}
+use Rattle.curve_bytes.specs.CurveBytes.{curveEntries}
 use Rattle.host.specs.Host.{colourOutcome}
 use Rattle.host.proofs.Accuracy.{host-accurate}
 use Rattle.still.specs.Agreement.{callsOf}
@@ -37,7 +37,7 @@ record FromBytes (w : Written) : Type 0 where
   input : InRange (w .input)
   entry : w .entry ≤ 765
 
--- so it is for a pixel written in an accepted call, from bytes and by a curve of targets
+-- that holds of a pixel written in an accepted call, from bytes and by a curve of targets
 from-bytes : (n : ℕ) (method : Method) (curve source bytes : List ℕ) → (n ≡ 0 → EntriesInRange curve) → Bytes source
     → (w : Written) → w among cond (eqb n 0) (pixelsWritten method curve source bytes) [] → FromBytes w
 from-bytes n method curve source bytes targets samples w m = go (eqb n 0) refl m
@@ -71,21 +71,21 @@ entries-are-targets (some c) shape = shape c refl .range
 
 pub calls-keep-widths : CallsKeepWidths
 calls-keep-widths calls ok before t o w m =
-    let good = accuracy calls ok .steps before t o in
+    let accurate = accuracy calls ok .steps before t o in
     let q = requested (t .call) in
     let from = from-bytes (number t) (methodOf (q .method)) (entries (t .book .curve)) (q .source) (t .outcome .bytes)
-    (λ e. entries-are-targets (t .book .curve) (good .shape))
+    (λ e. entries-are-targets (t .book .curve) (accurate .shape))
     (requested-bytes (t .call) (step-brings calls ok before t o)) w m in
-    written-widths w from (good .colouring .exact w m) (good .colouring .rules w m)
+    written-widths w from (accurate .colouring .exact w m) (accurate .colouring .rules w m)
 
 pub host-keeps-widths : HostKeepsWidths
 host-keeps-widths c bytes w m =
-    let good = host-accurate .colourings c bytes in
+    let accurate = host-accurate .colourings c bytes in
     let from = from-bytes (colourOutcome c .number) (methodOf (c .method)) (curveEntries (c .curve)) (c .source) (colourOutcome c .bytes)
-    (λ e. good .shape e .range)
+    (λ e. host-accurate .shapes c e .range)
     bytes w m in
-    written-widths w from (good .exact w m) (good .rules w m)
+    written-widths w from (accurate .exact w m) (accurate .rules w m)
 
 pub files-keep-widths : FilesKeepWidths
-files-keep-widths file bytes legal destination same =
-    calls-keep-widths (callsOf (fileSamples file) destination) (well-formed file legal bytes destination same)
+files-keep-widths file bytes accepted destination same =
+    calls-keep-widths (callsOf (fileSamples file) destination) (well-formed file accepted bytes destination same)

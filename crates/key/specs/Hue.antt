@@ -4,7 +4,7 @@ use mathlib.Core.Logic.{_⊎_}
 use Prim.Native.Nat.{ℕ, _+_, _-_, _*_, _<_, _≤_, min, max}
 use lib.Dec.{leb, eqb}
 use Rattle.rounding.specs.Fraction.{Fraction, whole, _over_, _⊕_, _≺_, Within}
-use Rattle.pixel.specs.Accuracy.{withinOneStep}
+use Rattle.pixel.specs.Accuracy.{KeepsDifferences}
 use Rattle.pixel.specs.Move.{Channel, sample}
 use Rattle.pixel.specs.declared.Pixel.{Pixel}
 
@@ -39,14 +39,14 @@ hue p =
     -- blue is: 60 × (4 + (r − g) / c)
     (sixths (4 * c + p .r - p .g) c))
 
--- That is an angle: no subtraction is cut off at 0, and the hue of a pixel that is not grey is less than a whole turn.
+-- Hue is an angle: no subtraction is cut off at 0, and the hue of a pixel that is not grey is less than a whole turn.
 pub record HueIsAngle (p : Pixel) : Type 0 where
   pub redFits : p .b ≤ 6 * chroma p + p .g
   pub greenFits : p .r ≤ 2 * chroma p + p .b
   pub blueFits : p .g ≤ 4 * chroma p + p .r
   pub lessThanTurn : 0 < chroma p → hue p ≺ whole 360
 
--- Claim: so it is for every pixel. Proved: proofs/Hue.antt, `hues-are-angles`.
+-- Claim: the hue of every pixel is an angle. Proved: proofs/Hue.antt, `hues-are-angles`.
 abbrev pub HuesAreAngles : Type 0
 HuesAreAngles = (p : Pixel) → HueIsAngle p
 
@@ -54,42 +54,37 @@ HuesAreAngles = (p : Pixel) → HueIsAngle p
 abbrev pub AnglesWithin : Fraction → Fraction → Fraction → Type 0
 AnglesWithin w x y = Within w x y ⊎ (Within w (x ⊕ whole 360) y ⊎ Within w x (y ⊕ whole 360))
 
--- The answer to "keeps hue to what?", at a written chroma of c: less than 60 / c degrees.
-abbrev pub hueBound : ℕ → Fraction
-hueBound c = 60 over c
+-- The answer to "keeps hue to what?", at a written chroma of c and differences that are kept to less than n steps: less than 60 × n / c
+-- degrees. The mission's n is 1.
+abbrev pub hueBound : ℕ → ℕ → Fraction
+hueBound n c = (60 * n) over c
 
 -- Where the pixel written, q, is not grey, its hue is less than that from the hue of p.
-abbrev pub KeepsAngle : Pixel → Pixel → Type 0
-KeepsAngle p q = 0 < chroma q → AnglesWithin (hueBound (chroma q)) (hue p) (hue q)
+abbrev pub KeepsAngle : ℕ → Pixel → Pixel → Type 0
+KeepsAngle n p q = 0 < chroma q → AnglesWithin (hueBound n (chroma q)) (hue p) (hue q)
 
 -- More than that, and without an angle: p has in its channels lo, mid and hi the samples min ≤ mid ≤ max, and q, written for it, min', mid'
 -- and max'. The order says in which sixth of the turn a hue is, and the middle sample where in it.
-pub record MiddleKept (p q : Pixel) (lo mid hi : Channel) : Type 0 where
+pub record MiddleKept (n : ℕ) (p q : Pixel) (lo mid hi : Channel) : Type 0 where
   -- min' ≤ mid' ≤ max'
   pub lower : sample q lo ≤ sample q mid
   pub upper : sample q mid ≤ sample q hi
-  -- | (mid' − min') × (max − min) − (mid − min) × (max' − min') | < max − min
+  -- | (mid' − min') × (max − min) − (mid − min) × (max' − min') | < n × (max − min)
   pub above : (sample q mid - sample q lo) * (sample p hi - sample p lo)
-      < (sample p mid - sample p lo) * (sample q hi - sample q lo) + (sample p hi - sample p lo)
+      < (sample p mid - sample p lo) * (sample q hi - sample q lo) + n * (sample p hi - sample p lo)
   pub below : (sample p mid - sample p lo) * (sample q hi - sample q lo)
-      < (sample q mid - sample q lo) * (sample p hi - sample p lo) + (sample p hi - sample p lo)
+      < (sample q mid - sample q lo) * (sample p hi - sample p lo) + n * (sample p hi - sample p lo)
 
 -- Whichever channels these are, where max > min.
-abbrev pub KeepsMiddle : Pixel → Pixel → Type 0
-KeepsMiddle p q =
-    (lo mid hi : Channel) → sample p lo ≤ sample p mid → sample p mid ≤ sample p hi → sample p lo < sample p hi → MiddleKept p q lo mid hi
+abbrev pub KeepsMiddle : ℕ → Pixel → Pixel → Type 0
+KeepsMiddle n p q =
+    (lo mid hi : Channel) → sample p lo ≤ sample p mid → sample p mid ≤ sample p hi → sample p lo < sample p hi → MiddleKept n p q lo mid hi
 
 -- Hue is kept, said both ways.
-pub record KeepsHue (p q : Pixel) : Type 0 where
-  pub angle : KeepsAngle p q
-  pub middle : KeepsMiddle p q
+pub record KeepsHue (n : ℕ) (p q : Pixel) : Type 0 where
+  pub angle : KeepsAngle n p q
+  pub middle : KeepsMiddle n p q
 
--- What that rests on, whatever made q: two of demand 3's rules, by any factor k.
-pub record KeepsDifferences (k : Fraction) (p q : Pixel) : Type 0 where
-  pub denominator : 0 < k .den
-  pub order : (a b : Channel) → sample p a ≤ sample p b → sample q a ≤ sample q b
-  pub difference : (a b : Channel) → withinOneStep k (sample p a) (sample p b) (sample q a) (sample q b)
-
--- Claim: that is enough. Proved: proofs/Hue.antt, `differences-keep-hue`.
+-- Claim: where differences are kept, hue is, whatever made q and by whichever factor. Proved: proofs/Hue.antt, `differences-keep-hue`.
 abbrev pub DifferencesKeepHue : Type 0
-DifferencesKeepHue = (k : Fraction) (p q : Pixel) → KeepsDifferences k p q → KeepsHue p q
+DifferencesKeepHue = (n : ℕ) (k : Fraction) (p q : Pixel) → KeepsDifferences n k p q → KeepsHue n p q

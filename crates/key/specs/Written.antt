@@ -12,27 +12,27 @@ use Rattle.book.specs.Run.{Step, trace, Occurs, WellFormed}
 use Rattle.host.specs.Accuracy.{written as writtenByHost}
 use Rattle.host.specs.Host.{ColourCall}
 use Rattle.still.specs.Agreement.{callsOf}
-use Rattle.still.specs.Still.{fileSamples, Legal}
+use Rattle.still.specs.Still.{fileSamples, IsAccepted}
 use Rattle.key.specs.Widths.{KeyWidths}
 
--- The pixel keeps the widths, by its own method and the curve's entry for its sum.
+-- The pixel keeps the widths, by its own method and the curve's entry for its intensity.
 abbrev pub WrittenWidths : Written → Type 0
 WrittenWidths w = KeyWidths (w .method) (w .entry) (w .input) (w .output)
 
--- Claim: so does every pixel written in any list of calls, of which any may be refused. Proved: proofs/Written.antt, `calls-keep-widths`.
+-- Claim: every pixel written in any list of calls, of which any may be refused, keeps them. Proved: proofs/Written.antt, `calls-keep-widths`.
 abbrev pub CallsKeepWidths : Type 0
 CallsKeepWidths =
     (calls : List Call) → ((c : Call) → c among calls → WellFormed c)
     → (before : List Step) (t : Step) → Occurs (trace calls) before t → (w : Written) → w among writtenInStep t → WrittenWidths w
 
--- Claim: and every pixel that a host colouring writes. Proved: proofs/Written.antt, `host-keeps-widths`.
+-- Claim: every pixel that a host colouring writes keeps them. Proved: proofs/Written.antt, `host-keeps-widths`.
 abbrev pub HostKeepsWidths : Type 0
 HostKeepsWidths = (c : ColourCall) → Bytes (c .source) → (w : Written) → w among writtenByHost c → WrittenWidths w
 
--- Claim: and every pixel written for a legal file, whose pixels are those of a list of calls (`FilesFollowShots`). Proved:
+-- Claim: every pixel written for an accepted file, whose pixels are those of a list of calls (`FilesFollowShots`), keeps them. Proved:
 -- proofs/Written.antt, `files-keep-widths`.
 abbrev pub FilesKeepWidths : Type 0
 FilesKeepWidths =
-    (file : List ℕ) → Bytes file → Legal file → (destination : List ℕ) → length destination ≡ length (fileSamples file)
+    (file : List ℕ) → Bytes file → IsAccepted file → (destination : List ℕ) → length destination ≡ length (fileSamples file)
     → (before : List Step) (t : Step) → Occurs (trace (callsOf (fileSamples file) destination)) before t
     → (w : Written) → w among writtenInStep t → WrittenWidths w

@@ -44,7 +44,7 @@ one-more counts size p s is range =
     go t false z =
         omega (arith, getD-set-other counts s t (at counts s + 1) 0 (λ (e : t ≡ s). eqb-false _ t z (sym (e ∙ is))))
 
--- a loop's invariant, at byte i, where `count` is what it has counted of each sum, in one histogram or in several
+-- a loop's invariant, at byte i, where `count` is what it has counted of each intensity, in one histogram or in several
 pub record Counting (start strip : List ℕ) (count : ℕ → ℕ) (i : ℕ) : Type 0 where
   pub threes : i % 3 ≡ 0
   pub whole : length strip % 3 ≡ 0

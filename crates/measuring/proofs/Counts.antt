@@ -27,12 +27,12 @@ pub count-le : (test : ℕ → Bool) (ps : List Pixel) → countWhere test ps �
 count-le test [] = omega arith
 count-le test (p ∷ ps) = omega (arith, count-le test ps, one-le (test (intensity p)))
 
--- a test that no sum passes less often counts no fewer
+-- a test that no intensity passes less often counts no fewer
 pub count-mono : (f g : ℕ → Bool) → ((i : ℕ) → one (f i) ≤ one (g i)) → (ps : List Pixel) → countWhere f ps ≤ countWhere g ps
 count-mono f g le [] = omega arith
 count-mono f g le (p ∷ ps) = omega (arith, count-mono f g le ps, le (intensity p))
 
--- tests of which every sum that passes f passes just one count together what f counts
+-- tests of which every intensity that passes f passes just one count together what f counts
 pub count-split : (f g h : ℕ → Bool) → ((i : ℕ) → one (f i) ≡ one (g i) + one (h i)) → (ps : List Pixel)
     → countWhere f ps ≡ countWhere g ps + countWhere h ps
 count-split f g h same [] = refl

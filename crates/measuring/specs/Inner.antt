@@ -18,10 +18,10 @@ pub record CountsFit (counts strip : List ℕ) : Type 0 where
   pub whole : isWhole (length strip) ≡ true
   pub fit : (s : ℕ) → s ≤ 765 → at counts s + length strip / 3 < 2 ^ 32
 
--- What four histograms count of the sum s.
-abbrev pub together : List ℕ → List ℕ → List ℕ → List ℕ → ℕ → ℕ
-together first second third fourth s = at first s + at second s + at third s + at fourth s
+-- What four histograms count, added up, of the intensity s.
+abbrev pub sumOfFour : List ℕ → List ℕ → List ℕ → List ℕ → ℕ → ℕ
+sumOfFour first second third fourth s = at first s + at second s + at third s + at fourth s
 
--- No count of the four together passes 32 bits.
-abbrev pub TogetherFit : List ℕ → List ℕ → List ℕ → List ℕ → Type 0
-TogetherFit first second third fourth = (s : ℕ) → s ≤ 765 → together first second third fourth s < 2 ^ 32
+-- No such sum passes 32 bits.
+abbrev pub FourFit : List ℕ → List ℕ → List ℕ → List ℕ → Type 0
+FourFit first second third fourth = (s : ℕ) → s ≤ 765 → sumOfFour first second third fourth s < 2 ^ 32

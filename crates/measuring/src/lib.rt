@@ -4,7 +4,10 @@ ghost use mathlib.Core.List.{[], _∷_};
 ghost use Rattle.tables.specs.Table.{tabulate};
 ghost use Rattle.pixel.specs.Strip.{pixelsOf, pixelFrom};
 ghost use Rattle.measuring.specs.Histogram.{withPixels};
-ghost use Rattle.measuring.specs.Inner.{PixelFits, CountsFit, together, TogetherFit};
+ghost use Rattle.measuring.specs.Inner.{PixelFits, CountsFit, sumOfFour, FourFit};
+
+// At most so many pixels to a shot.
+pub const PIXEL_LIMIT: usize = 16777216;
 
 // Counts the pixel whose first byte stands at i.
 fn count_pixel(counts: &mut [u32; 766], strip: &[u8], i: usize)
@@ -32,8 +35,8 @@ fn count_rest(start: [u32; 766], strip: &[u8]) -> [u32; 766]
 
 // Four histograms added up.
 fn added(first: [u32; 766], second: [u32; 766], third: [u32; 766], fourth: [u32; 766]) -> [u32; 766]
-    requires { ⌜ TogetherFit first second third fourth ⌝ }
-    ensures { λ r. ⌜ r ≡ tabulate (together first second third fourth) 766 ⌝ }
+    requires { ⌜ FourFit first second third fourth ⌝ }
+    ensures { λ r. ⌜ r ≡ tabulate (sumOfFour first second third fourth) 766 ⌝ }
 {
     let mut counts = [0u32; 766];
     let mut s: usize = 0;

@@ -1,6 +1,7 @@
 pub mod Numbers
 pub mod Channels
-pub mod Cases
+pub mod Formulas
+pub mod Lines
 pub mod Accurate
 pub mod Paper
 pub mod Strips

@@ -4,7 +4,7 @@ use mathlib.Core.Bool.{cond}
 use mathlib.Core.Logic.{_⊎_}
 use Prim.Native.Nat.{ℕ, _+_, _-_, _*_, _<_, _≤_}
 use lib.Dec.{leb, eqb}
-use Rattle.rounding.specs.Fraction.{Fraction, _over_}
+use Rattle.rounding.specs.Fraction.{Fraction, whole, _over_, AtMostApart}
 use Rattle.pixel.specs.Move.{Channel, sample, InRange, intensity, moved}
 use Rattle.pixel.specs.declared.Pixel.{Pixel}
 use Rattle.pixel.specs.declared.Method.{Method}
@@ -35,35 +35,50 @@ factorBy YangLee = factor₂
 unfoldable pub factor : Method → ℕ → ℕ → Fraction
 factor m s f = cond (eqb s 0) (1 over 1) (cond (eqb s 765) (1 over 1) (factorBy m s f))
 
--- x' − y' is less than a full step above, and less than a full step below, (x − y) × k; both sides times k's denominator.
-abbrev pub withinOneStep : Fraction → ℕ → ℕ → ℕ → ℕ → Type 0
-withinOneStep k x y x' y' =
-    (x' * k .den + y * k .num < y' * k .den + x * k .num + k .den)
-    × (y' * k .den + x * k .num < x' * k .den + y * k .num + k .den)
+-- How far a written pixel may be from where it should be.
+pub record Tolerance : Type 0 where
+  -- the difference of two channels: less than so many full steps
+  pub steps : ℕ
+  -- the intensity, the demand's "sum": at most so far
+  pub sum : Fraction
 
--- The rules of demand 3 for a pixel p that is written as q, with the entry f for its intensity and the factor k.
-pub record PixelAccurate (k : Fraction) (f : ℕ) (p q : Pixel) : Type 0 where
-  -- each sample is 0 to 255
-  pub range : InRange q
-  -- of two channels the one no larger going in comes out no larger
-  pub order : (a b : Channel) → sample p a ≤ sample p b → sample q a ≤ sample q b
-  -- the sum is at most one from the entry
-  pub sumAbove : intensity q ≤ f + 1
-  pub sumBelow : f ≤ intensity q + 1
-  -- two channels differ by their input difference times the factor, give or take less than a full step
-  pub difference : (a b : Channel) → withinOneStep k (sample p a) (sample p b) (sample q a) (sample q b)
+-- Demand 3's own: "give or take less than a full step", and "at most one from the curve's entry".
+abbrev pub mission : Tolerance
+mission = record { steps = 1; sum = whole 1 }
+
+-- x' − y' is less than n steps above, and less than n steps below, (x − y) × k; both sides times k's denominator.
+abbrev pub withinSteps : ℕ → Fraction → ℕ → ℕ → ℕ → ℕ → Type 0
+withinSteps n k x y x' y' =
+    (x' * k .den + y * k .num < y' * k .den + x * k .num + n * k .den)
+    × (y' * k .den + x * k .num < x' * k .den + y * k .num + n * k .den)
+
+-- The pixel q, written for p, keeps p's differences times the factor k, to less than n steps.
+pub record KeepsDifferences (n : ℕ) (k : Fraction) (p q : Pixel) : Type 0 where
   -- the factor is a number
   pub denominator : 0 < k .den
+  -- of two channels the one no larger going in comes out no larger
+  pub order : (a b : Channel) → sample p a ≤ sample p b → sample q a ≤ sample q b
+  -- two channels differ by their input difference times the factor, give or take less than n steps
+  pub difference : (a b : Channel) → withinSteps n k (sample p a) (sample p b) (sample q a) (sample q b)
 
--- The sum rule is for intensities 1 to 764, and for 0 and 765 with their own targets.
+-- The rules of demand 3 for a pixel p that is written as q, by a tolerance, the factor k and the intensity that q should have.
+pub record PixelAccurate (t : Tolerance) (k target : Fraction) (p q : Pixel) : Type 0 where
+  -- each sample is 0 to 255
+  pub range : InRange q
+  -- the intensity is at most so far from the target
+  pub sum : AtMostApart (t .sum) (whole (intensity q)) target
+  -- the channels keep their order and, times the factor, their differences
+  pub channels : KeepsDifferences (t .steps) k p q
+
+-- The rule on the intensity is for 1 to 764, and for 0 and 765 with their own targets.
 pub record OwnEnds (p : Pixel) (f : ℕ) : Type 0 where
   pub black : intensity p ≡ 0 → f ≡ 0
   pub white : intensity p ≡ 765 → f ≡ 765
 
--- Claim: every move keeps the rules. Proved: proofs/Accurate.antt, `moves-are-accurate`.
+-- Claim: every move keeps the rules, to the mission's tolerance. Proved: proofs/Accurate.antt, `moves-are-accurate`.
 abbrev pub MovesAreAccurate : Type 0
 MovesAreAccurate =
-    (m : Method) (p : Pixel) (f : ℕ) → InRange p → f ≤ 765 → OwnEnds p f → PixelAccurate (factor m (intensity p) f) f p (moved m p f)
+    (m : Method) (p : Pixel) (f : ℕ) → InRange p → f ≤ 765 → OwnEnds p f → PixelAccurate mission (factor m (intensity p) f) (whole f) p (moved m p f)
 
 -- Claim: black and white stay, for every target. Proved: proofs/Accurate.antt, `ends-stay`.
 abbrev pub EndsStay : Type 0

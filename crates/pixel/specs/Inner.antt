@@ -1,11 +1,18 @@
--- What the inner functions of this crate require; their callers show it. No outside call's contract cites these.
+-- What the functions of this crate that no customer calls require; their callers show it. No outside call's contract cites these.
 use Prim.Native.Nat.{ℕ, _+_, _*_, _<_, _≤_}
 
--- x × n / d is at most 255, over one of document 01's divisors.
+-- x × n / d is at most 255, and so is n / d; d is one of document 01's divisors.
 pub record AtMostWhite (x n d : ℕ) : Type 0 where
   pub positive : 0 < d
   pub divisor : d ≤ 1530
+  pub steep : n ≤ 255 * d
   pub small : x * n ≤ 255 * d
+
+-- The pixels of intensity s are neither black nor white, and f is a target.
+pub record Moving (s f : ℕ) : Type 0 where
+  pub target : f ≤ 765
+  pub notBlack : 0 < s
+  pub notWhite : s < 765
 
 -- c is a sample of a pixel of intensity s, and f a target.
 pub record PixelSample (s f c : ℕ) : Type 0 where

@@ -5,3 +5,4 @@ pub mod MoveOne
 pub mod Paper
 pub mod Accuracy
 pub mod Inner
+pub mod Lines

@@ -6,15 +6,30 @@ ghost use lib.ListN.{length};
 ghost use Rattle.refusal.specs.Refusal.{firstOf};
 ghost use Rattle.rounding.specs.Near.{near};
 ghost use Rattle.pixel.specs.Methods.{isMethod, methodOf};
-ghost use Rattle.pixel.specs.Move.{naikMurthy, yangLee, byMethod, movedSample, moved};
+ghost use Rattle.pixel.specs.Lines.{upFrom, downFrom, naikMurthyLine, yangLeeLine, lineOf, onLine};
+ghost use Rattle.pixel.specs.Move.{movedSample, moved};
 ghost use Rattle.pixel.specs.MoveOne.{moveChecks, refusedMove, movedOne};
 ghost use Rattle.pixel.specs.Strip.{pixelFrom};
-ghost use Rattle.pixel.specs.Inner.{AtMostWhite, PixelSample, MovingSample};
+ghost use Rattle.pixel.specs.Inner.{AtMostWhite, Moving, PixelSample, MovingSample};
 
 // The two methods of source 004: 2.1 and 2.2.
 pub enum Method {
     NaikMurthy,
     YangLee,
+}
+
+// A line goes up from black or down from white.
+pub enum Direction {
+    Up,
+    Down,
+}
+
+// A sample at the distance x from the start goes to near(x × numerator / denominator), counted up from black or down from white.
+pub struct Line {
+    pub direction: Direction,
+    pub start: u64,
+    pub numerator: u64,
+    pub denominator: u64,
 }
 
 // Three samples, 0 to 255 each.
@@ -62,63 +77,99 @@ fn scaled_from_white(x: u64, n: u64, d: u64) -> u8
     255 - scaled(x, n, d)
 }
 
-// Method 1: the sample c of a pixel of intensity s, moved to the target f.
-fn naik_murthy(s: u64, f: u64, c: u64) -> u8
-    requires { ⌜ MovingSample s f c ⌝ }
-    ensures { λ r. ⌜ r ≡ naikMurthy s f c ⌝ }
+// The line that goes up from `start` by n / d.
+fn up_from(start: u64, n: u64, d: u64) -> Line
+    ensures { λ r. ⌜ r ≡ upFrom start n d ⌝ }
+{
+    Line {
+        direction: Direction::Up,
+        start,
+        numerator: n,
+        denominator: d,
+    }
+}
+
+// The line that goes down from `start` by n / d.
+fn down_from(start: u64, n: u64, d: u64) -> Line
+    ensures { λ r. ⌜ r ≡ downFrom start n d ⌝ }
+{
+    Line {
+        direction: Direction::Down,
+        start,
+        numerator: n,
+        denominator: d,
+    }
+}
+
+// Method 1's line for pixels of intensity s that are moved to the target f.
+fn naik_murthy(s: u64, f: u64) -> Line
+    requires { ⌜ Moving s f ⌝ }
+    ensures { λ r. ⌜ r ≡ naikMurthyLine s f ⌝ }
 {
     if f <= s {
-        return scaled(c, f, s);
+        return up_from(0, f, s);
     }
-    scaled_from_white(255 - c, 765 - f, 765 - s)
+    down_from(255, 765 - f, 765 - s)
 }
 
-// Method 2 for a dark pixel, s at most 255.
-fn yang_lee_dark(s: u64, f: u64, c: u64) -> u8
-    requires { ⌜ MovingSample s f c × (s ≤ 255) ⌝ }
-    ensures { λ r. ⌜ r ≡ yangLee s f c ⌝ }
+// Method 2's line for dark pixels, s at most 255.
+fn yang_lee_dark(s: u64, f: u64) -> Line
+    requires { ⌜ Moving s f × (s ≤ 255) ⌝ }
+    ensures { λ r. ⌜ r ≡ yangLeeLine s f ⌝ }
 {
     if f <= 255 {
-        return scaled(c, f, s);
+        return up_from(0, f, s);
     }
-    scaled_from_white(765 - f, s - c, 2 * s)
+    down_from(s, 765 - f, 2 * s)
 }
 
-// Method 2 for a bright pixel, s above 510.
-fn yang_lee_bright(s: u64, f: u64, c: u64) -> u8
-    requires { ⌜ MovingSample s f c × (510 < s) ⌝ }
-    ensures { λ r. ⌜ r ≡ yangLee s f c ⌝ }
+// Method 2's line for bright pixels, s above 510.
+fn yang_lee_bright(s: u64, f: u64) -> Line
+    requires { ⌜ Moving s f × (510 < s) ⌝ }
+    ensures { λ r. ⌜ r ≡ yangLeeLine s f ⌝ }
 {
-    let d = 255 - c;
     let t = 765 - s;
     if f <= 510 {
-        return scaled(f, t - d, 2 * t);
+        return up_from(s - 510, f, 2 * t);
     }
-    scaled_from_white(765 - f, d, t)
+    down_from(255, 765 - f, t)
 }
 
-// Method 2: the pixel's own intensity decides the case, and not the target.
-fn yang_lee(s: u64, f: u64, c: u64) -> u8
-    requires { ⌜ MovingSample s f c ⌝ }
-    ensures { λ r. ⌜ r ≡ yangLee s f c ⌝ }
+// Method 2's line: the pixel's own intensity decides the case, and not the target.
+fn yang_lee(s: u64, f: u64) -> Line
+    requires { ⌜ Moving s f ⌝ }
+    ensures { λ r. ⌜ r ≡ yangLeeLine s f ⌝ }
 {
     if s <= 255 {
-        return yang_lee_dark(s, f, c);
+        return yang_lee_dark(s, f);
     }
     if s <= 510 {
-        return naik_murthy(s, f, c);
+        return naik_murthy(s, f);
     }
-    yang_lee_bright(s, f, c)
+    yang_lee_bright(s, f)
 }
 
-// A sample of a pixel that is neither black nor white.
-fn by_method(method: Method, s: u64, f: u64, c: u64) -> u8
-    requires { ⌜ MovingSample s f c ⌝ }
-    ensures { λ r. ⌜ r ≡ byMethod method s f c ⌝ }
+// The line of pixels of intensity s, neither black nor white, that are moved to the target f.
+pub fn line_of(method: Method, s: u64, f: u64) -> Line
+    requires { ⌜ Moving s f ⌝ }
+    ensures { λ r. ⌜ r ≡ lineOf method s f ⌝ }
 {
     match method {
-        Method::NaikMurthy => naik_murthy(s, f, c),
-        Method::YangLee => yang_lee(s, f, c),
+        Method::NaikMurthy => naik_murthy(s, f),
+        Method::YangLee => yang_lee(s, f),
+    }
+}
+
+// A sample of such a pixel, moved along the line.
+fn along_line(method: Method, s: u64, f: u64, c: u64) -> u8
+    requires { ⌜ MovingSample s f c ⌝ }
+    ensures { λ r. ⌜ r ≡ onLine (lineOf method s f) c ⌝ }
+{
+    let line = line_of(method, s, f);
+    let direction = line.direction;
+    match direction {
+        Direction::Up => scaled(c - line.start, line.numerator, line.denominator),
+        Direction::Down => scaled_from_white(line.start - c, line.numerator, line.denominator),
     }
 }
 
@@ -133,7 +184,7 @@ fn moved_sample(method: Method, s: u64, f: u64, c: u64) -> u8
     if s == 765 {
         return 255;
     }
-    by_method(method, s, f, c)
+    along_line(method, s, f, c)
 }
 
 // The pixel whose first byte stands at i.

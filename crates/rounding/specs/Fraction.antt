@@ -1,7 +1,7 @@
 -- Exact fractions of whole numbers, in which the paper's formulas are written.
 use mathlib.Core.Path.{_≡_}
 use mathlib.Core.Bool.{Bool}
-use Prim.Native.Nat.{ℕ, _+_, _-_, _*_, _<_}
+use Prim.Native.Nat.{ℕ, _+_, _-_, _*_, _<_, _≤_}
 use lib.Dec.{leb}
 use Rattle.rounding.specs.Near.{near}
 
@@ -15,6 +15,7 @@ infixl 60 _⊕_
 infixl 60 _⊖_
 infixl 70 _⊗_
 infixl 70 _⊘_
+infix 50 _≼ᵇ_
 infix 50 _≼_
 infix 50 _≺_
 infix 50 _≈_
@@ -38,9 +39,13 @@ x ⊗ y = (x .num * y .num) over (x .den * y .den)
 abbrev pub _⊘_ : Fraction → Fraction → Fraction
 x ⊘ y = (x .num * y .den) over (x .den * y .num)
 
+-- whether x is at most y, where both denominators are positive
+abbrev pub _≼ᵇ_ : Fraction → Fraction → Bool
+x ≼ᵇ y = leb (x .num * y .den) (y .num * x .den)
+
 -- x is at most y, where both denominators are positive
-abbrev pub _≼_ : Fraction → Fraction → Bool
-x ≼ y = leb (x .num * y .den) (y .num * x .den)
+abbrev pub _≼_ : Fraction → Fraction → Type 0
+x ≼ y = x .num * y .den ≤ y .num * x .den
 
 -- x is less than y, where both denominators are positive
 abbrev pub _≺_ : Fraction → Fraction → Type 0
@@ -49,6 +54,10 @@ x ≺ y = x .num * y .den < y .num * x .den
 -- x and y are less than w apart, where w's denominator is positive (where x's or y's is 0, this does not hold)
 abbrev pub Within : Fraction → Fraction → Fraction → Type 0
 Within w x y = (x ≺ y ⊕ w) × (y ≺ x ⊕ w)
+
+-- x and y are at most w apart, where all three denominators are positive
+abbrev pub AtMostApart : Fraction → Fraction → Fraction → Type 0
+AtMostApart w x y = (x ≼ y ⊕ w) × (y ≼ x ⊕ w)
 
 -- x and y are the same number
 abbrev pub _≈_ : Fraction → Fraction → Type 0

@@ -13,8 +13,8 @@ use Rattle.pixel.specs.Methods.{isMethod}
 use Rattle.colouring.specs.Colouring.{colouredStrip}
 use Rattle.shot.specs.Empty.{EmptyStripsChangeNothing}
 use Rattle.shot.specs.Reachable.{Reachable}
-use Rattle.measuring.specs.Histogram.{withPixels}
-use Rattle.shot.specs.Shot.{pixelLimit, withStrip, measured, coloured}
+use Rattle.measuring.specs.Histogram.{pixelLimit, withPixels}
+use Rattle.shot.specs.Shot.{withStrip, measured, coloured}
 use Rattle.shot.specs.declared.Shot.{Shot}
 use Rattle.shot.proofs.Answers.{answer-accepted}
 use Rattle.shot.proofs.Holds.{reachable-holds}

@@ -14,15 +14,14 @@ use Rattle.pixel.specs.Strip.{pixelsOf, Bytes}
 use Rattle.pixel.specs.declared.Pixel.{Pixel}
 use Rattle.pixel.proofs.Strips.{length-pixels, pixels-in-range, intensity-in-range}
 use Rattle.curve.specs.Choices.{choiceOf}
-use Rattle.curve.specs.Curve.{toneCurve, IsToneCurve}
-use Rattle.curve.specs.Histogram.{cumulative}
+use Rattle.curve.specs.Curve.{toneCurve, curveOf, IsToneCurve}
 use Rattle.curve.proofs.Curve.{curves-are-tone-curves, tone-curve-same}
-use Rattle.measuring.specs.Histogram.{countOf, countUpTo, withPixels}
+use Rattle.measuring.specs.Histogram.{pixelLimit, pixelsIn, countOf, countUpTo, withPixels, cumulative, Counted}
 use Rattle.measuring.proofs.Counts.{count-append}
+use Rattle.measuring.proofs.Cumulative.{tallies-give-h, h-is-cumulative}
 use Rattle.shot.specs.Reachable.{Reachable, Reachable.byOpening, Reachable.byMeasuring, Reachable.byFixing}
-use Rattle.shot.specs.Shot.{pixelLimit, opened, withStrip, measured, withCurve, fixedWith, pixelsIn, curveOf}
+use Rattle.shot.specs.Shot.{opened, withStrip, measured, withCurve, fixedWith}
 use Rattle.shot.specs.declared.Shot.{Shot}
-use Rattle.shot.proofs.Counts.{Counted, cumulative-counts, pixels-cumulative}
 use Rattle.shot.proofs.Passed.{MeasuringAccepted, measure-passed, fix-passed}
 
 pub record Holds (x : Shot) (ps : List Pixel) : Type 0 where
@@ -35,11 +34,11 @@ pub record Holds (x : Shot) (ps : List Pixel) : Type 0 where
 
 -- the counts up to an intensity add up to the pixels of at most it
 pub up-to-of-held : {x : Shot} {ps : List Pixel} → Holds x ps → (s : ℕ) → s ≤ 765 → cumulative (x .counts) s ≡ countUpTo ps s
-up-to-of-held {x} {ps} h = cumulative-counts (x .counts) ps (h .counts)
+up-to-of-held {x} {ps} h = tallies-give-h (x .counts) ps (h .counts)
 
 -- and at 765 that is all of them
 pub last-of-held : {x : Shot} {ps : List Pixel} → Holds x ps → countUpTo ps 765 ≡ x .pixels
-last-of-held {x} {ps} h = pixels-cumulative ps (h .counted) .last ∙ sym (h .pixels)
+last-of-held {x} {ps} h = h-is-cumulative ps (h .counted) .last ∙ sym (h .pixels)
 
 -- an opened shot holds none
 pub holds-opened : Holds opened []
@@ -94,7 +93,7 @@ holds-curve {x} {ps} h choice positive = record {
   counted = h .counted;
   curve = λ fixed.
       subst IsToneCurve (sym (curve-of-held h choice))
-      (curves-are-tone-curves (choiceOf choice) (length ps) (countUpTo ps) (omega (arith, h .pixels)) (pixels-cumulative ps (h .counted)));
+      (curves-are-tone-curves (choiceOf choice) (length ps) (countUpTo ps) (omega (arith, h .pixels)) (h-is-cumulative ps (h .counted)));
 }
 
 -- every shot that came from the calls holds some pixels

@@ -1,4 +1,3 @@
-pub mod Counts
 pub mod Passed
 pub mod Holds
 pub mod Answers

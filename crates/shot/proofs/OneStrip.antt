@@ -2,27 +2,29 @@
 use mathlib.Core.Path.{_≡_, refl, sym, ap, subst, _∙_}
 use mathlib.Core.Bool.{true}
 use mathlib.Core.List.{List, [], _∷_, append-nil}
-use Prim.Native.Nat.{ℕ, _+_, _/_, _<_}
+use Prim.Native.Nat.{ℕ, _+_, _/_, _≤_, _<_}
 use native.Mathlib.Omega.{arith}
 use borrow.Author.Tests.{le-ltb, eq-eqb, ne-eqb}
 use lib.ListN.{length}
 use Rattle.pixel.specs.Methods.{isMethod, methodOf}
 use Rattle.pixel.specs.Strip.{isWhole, pixelsOf, Bytes}
 use Rattle.pixel.proofs.Strips.{whole-means}
-use Rattle.curve.specs.Curve.{IsToneCurve}
+use Rattle.measuring.specs.Histogram.{pixelLimit, pixelsIn}
+use Rattle.curve.specs.Choices.{isChoice}
+use Rattle.curve.specs.Curve.{curveOf}
 use Rattle.colouring.specs.Colouring.{colouredStrip}
-use Rattle.shot.specs.Inner.{WholeShot}
-use Rattle.shot.specs.Shot.{pixelLimit, opened, withStrip, measured, withCurve, fixedWith, pixelsIn, curveOf, ColourRequest, coloured}
+use Rattle.shot.specs.Shot.{opened, withStrip, measured, withCurve, fixedWith, ColourRequest, coloured}
 use Rattle.shot.specs.declared.Answer.{Answer}
 use Rattle.shot.specs.declared.Shot.{Shot}
-use Rattle.shot.proofs.Holds.{Holds, holds-opened, holds-strip, curve-of-strips, holds-curve}
+use Rattle.shot.proofs.Holds.{Holds, holds-opened, holds-strip, curve-of-strips}
 use Rattle.shot.proofs.Passed.{measure-passed}
 
--- for callers: what fixing hands back, where the calls were made one after the other
-pub in-turn : (strip : List ℕ) (choice : ℕ) (o : Shot) (a b : Answer) → o ≡ opened → a ≡ measured o strip → b ≡ fixedWith (a .shot) choice
-    → b ≡ fixedWith (measured opened strip .shot) choice
-in-turn strip choice o a b eo ea eb =
-    eb ∙ ap (λ (answer : Answer). fixedWith (answer .shot) choice) (ea ∙ ap (λ (x : Shot). measured x strip) eo)
+-- a strip of this length makes a shot that can be fixed by the choice
+pub record WholeShot (strip choice : ℕ) : Type 0 where
+  pub known : isChoice choice ≡ true
+  pub whole : isWhole strip ≡ true
+  pub some : 0 < strip
+  pub limit : strip / 3 ≤ pixelLimit
 
 module _ (strip : List ℕ) (bytes : Bytes strip) (choice : ℕ) (ok : WholeShot (length strip) choice) where
   -- what measuring and then fixing hand back
@@ -75,9 +77,6 @@ module _ (strip : List ℕ) (bytes : Bytes strip) (choice : ℕ) (ok : WholeShot
 
   pub curve-is : fixing-it .shot .curve ≡ curveOf choice (strip ∷ [])
   curve-is = ap (λ (x : Shot). x .curve) fixed-is ∙ made
-
-  pub curve-shape : IsToneCurve (curveOf choice (strip ∷ []))
-  curve-shape = subst IsToneCurve made (holds-curve held choice some-pixels .curve refl)
 
   -- colouring from it accepts every fitting request, and writes by that curve
   pub colour-accepted : (q : ColourRequest) → isMethod (q .method) ≡ true → isWhole (length (q .source)) ≡ true

@@ -10,8 +10,9 @@ use lib.ListN.{length}
 use Rattle.refusal.proofs.Laws.{none-applies}
 use Rattle.pixel.specs.Methods.{isMethod}
 use Rattle.pixel.specs.Strip.{isWhole}
+use Rattle.measuring.specs.Histogram.{pixelLimit}
 use Rattle.curve.specs.Choices.{isChoice}
-use Rattle.shot.specs.Shot.{pixelLimit, measureChecks, measured, fixChecks, fixedWith, ColourRequest, colourChecks, coloured}
+use Rattle.shot.specs.Shot.{measureChecks, measured, fixChecks, fixedWith, ColourRequest, colourChecks, coloured}
 use Rattle.shot.specs.declared.Shot.{Shot}
 
 pub record MeasuringAccepted (x : Shot) (strip : List ℕ) : Type 0 where

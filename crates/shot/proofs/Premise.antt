@@ -1,20 +1,22 @@
 -- What the premise of a shot's calls gives: to the calls' own proofs, and to callers for the next call.
-use mathlib.Core.Path.{_≡_, sym, _∙_, subst}
+use mathlib.Core.Path.{_≡_, sym, subst}
 use mathlib.Core.Bool.{true}
 use mathlib.Core.List.{List}
 use Prim.Native.Nat.{ℕ, _≤_, _<_}
 use native.Mathlib.Omega.{arith}
 use lib.Dec.{eqb}
 use Rattle.pixel.specs.Strip.{Bytes}
+use Rattle.measuring.specs.Histogram.{pixelLimit}
 use Rattle.measuring.specs.Inner.{CountsFit}
 use Rattle.measuring.proofs.Counts.{count-le}
 use Rattle.curve.specs.Inner.{HistogramOf}
 use Rattle.curve.specs.Curve.{EntriesInRange}
+use Rattle.curve.proofs.Histogram.{tally-is-histogram}
 use Rattle.shot.specs.Reachable.{Reachable, Reachable.byOpening, Reachable.byMeasuring, Reachable.byFixing}
-use Rattle.shot.specs.Shot.{pixelLimit, opened, measured, fixedWith, ColourRequest, Outcome, coloured}
+use Rattle.shot.specs.Shot.{opened, measured, fixedWith, ColourRequest, Outcome, coloured}
 use Rattle.shot.specs.declared.Shot.{Shot}
 use Rattle.shot.specs.declared.Answer.{Answer}
-use Rattle.shot.proofs.Holds.{up-to-of-held, last-of-held, reachable-holds}
+use Rattle.shot.proofs.Holds.{reachable-holds}
 use Rattle.shot.proofs.Passed.{MeasuringAccepted}
 
 module _ {x : Shot} (r : Reachable x) where
@@ -35,11 +37,8 @@ module _ {x : Shot} (r : Reachable x) where
   pub histogram-of : 0 < x .pixels → HistogramOf (x .pixels) (x .counts)
   histogram-of positive =
       let (ps, h) = reachable-holds r in
-      record {
-        all = up-to-of-held h 765 (omega arith) ∙ last-of-held h;
-        some = positive;
-        most = omega (arith, h .limit);
-      }
+      subst (λ (n : ℕ). HistogramOf n (x .counts)) (sym (h .pixels))
+      (tally-is-histogram (x .counts) ps (h .counts) (h .counted) (omega (arith, h .pixels)) (omega (arith, h .pixels, h .limit)))
 
   -- a fixed shot's curve has no entry above 765
   pub entries-in-range : x .fixed ≡ true → EntriesInRange (x .curve)

@@ -1,4 +1,3 @@
 pub mod Shot
 pub mod Reachable
 pub mod Empty
-pub mod Inner

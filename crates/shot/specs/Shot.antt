@@ -1,24 +1,18 @@
 -- What a shot's calls hand back (document 01, "The ground covered", "Measuring", "Who can cause which refusal").
 use mathlib.Core.Bool.{Bool, true, false, not}
-use mathlib.Core.List.{List, [], _∷_, _++_}
+use mathlib.Core.List.{List, [], _∷_}
 use Prim.Native.Nat.{ℕ, _+_, _/_}
 use lib.Dec.{ltb, eqb}
 use lib.ListN.{length, replicate}
 use Rattle.refusal.specs.Refusal.{Check, _refuses_, firstOf, ifAccepted}
 use Rattle.pixel.specs.Methods.{isMethod, methodOf}
 use Rattle.pixel.specs.Strip.{isWhole, pixelsOf}
-use Rattle.pixel.specs.declared.Pixel.{Pixel}
 use Rattle.curve.specs.Choices.{isChoice, choiceOf}
 use Rattle.curve.specs.Curve.{toneCurve}
-use Rattle.curve.specs.Histogram.{cumulative}
 use Rattle.colouring.specs.Colouring.{colouredStrip}
-use Rattle.measuring.specs.Histogram.{countUpTo, withPixels}
+use Rattle.measuring.specs.Histogram.{pixelLimit, withPixels, cumulative}
 use Rattle.shot.specs.declared.Shot.{Shot}
 use Rattle.shot.specs.declared.Answer.{Answer}
-
--- At most 16,777,216 pixels to a shot.
-abbrev pub pixelLimit : ℕ
-pixelLimit = 16777216
 
 -- A SHOT is opened empty: all counts are zero. (So is the place of its curve, which nothing reads before it is fixed.)
 unfoldable pub opened : Shot
@@ -68,15 +62,6 @@ withCurve x choice =
 unfoldable pub fixedWith : Shot → ℕ → Answer
 fixedWith x choice =
     answered (firstOf (fixChecks (x .fixed) (isChoice choice) (eqb (x .pixels) 0))) (withCurve x choice) x
-
--- All pixels of some strips.
-abbrev pub pixelsIn : List (List ℕ) → List Pixel
-pixelsIn [] = []
-pixelsIn (strip ∷ strips) = pixelsOf strip ++ pixelsIn strips
-
--- The curve of some strips, with N and H counted over all their pixels.
-unfoldable pub curveOf : ℕ → List (List ℕ) → List ℕ
-curveOf choice strips = toneCurve (choiceOf choice) (length (pixelsIn strips)) (countUpTo (pixelsIn strips))
 
 -- What a colouring brings besides the shot.
 pub record ColourRequest : Type 0 where

@@ -1,14 +1,8 @@
 // A shot: opened empty, measured strip by strip, fixed once, and then used to colour strips (document 01, "The ground covered").
 ghost use mathlib.Core.Path.{_≡_};
-ghost use mathlib.Core.List.{[], _∷_};
-ghost use lib.ListN.{length};
 ghost use Rattle.refusal.specs.Refusal.{firstOf};
-ghost use Rattle.shot.specs.Inner.{WholeShot};
 ghost use Rattle.shot.specs.Reachable.{Reachable};
-ghost use Rattle.shot.specs.Shot.{opened, measureChecks, measured, fixChecks, fixedWith, curveOf, colourChecks, coloured};
-
-// At most so many pixels to a shot.
-pub const PIXEL_LIMIT: usize = 16777216;
+ghost use Rattle.shot.specs.Shot.{opened, measureChecks, measured, fixChecks, fixedWith, colourChecks, coloured};
 
 // A shot's state: how many of its pixels have each intensity, how many they are, and, once it is fixed, its tone curve. Nothing
 // reads the curve of a shot that is not fixed. The counts stay after fixing.
@@ -95,7 +89,7 @@ impl Shot {
         ensures { λ r. ⌜ r ≡ measured self (now (strip .entry)) ⌝ }
     {
         // the room left is compared, so that nothing can overflow
-        let room = PIXEL_LIMIT - (self.pixels as usize);
+        let room = measuring::PIXEL_LIMIT - (self.pixels as usize);
         let number = measure_refusal(self.fixed, strip.len() % 3 == 0, room < strip.len() / 3);
         if number != 0 {
             return Answer { shot: self, number };
@@ -152,18 +146,4 @@ impl Shot {
         }
         Answer { shot: self, number }
     }
-}
-
-// The tone curve of a strip taken as a whole shot: for the host's calls, which keep no shot. No outside call: it requires what
-// measuring and fixing check, so neither is refused.
-pub fn whole_shot_curve(strip: &[u8], choice: u32) -> [u16; 766]
-    requires { ⌜ WholeShot (length (now strip)) choice ⌝ }
-    ensures { λ r. ⌜ r ≡ curveOf choice (now (strip .entry) ∷ []) ⌝ }
-{
-    let opened = Shot::open();
-    let measured = opened.measure(strip);
-    let shot = measured.shot;
-    let fixed = shot.fix(choice);
-    let shot = fixed.shot;
-    shot.curve
 }

@@ -9,25 +9,26 @@ use lib.Seq.{getD-drop}
 use Rattle.tables.specs.Table.{_among_}
 use Rattle.pixel.specs.Strip.{Bytes}
 use Rattle.book.specs.Book.{Call, Call.measuring, Call.fixing, Call.colouring}
-use Rattle.shot.specs.Inner.{WholeShot}
 use Rattle.book.specs.Run.{trace, number, WellFormed}
 use Rattle.shot.specs.Shot.{opened, measured, fixedWith, ColourRequest, Outcome, coloured}
 use Rattle.book.proofs.Accuracy.{accuracy}
-use Rattle.shot.proofs.OneStrip.{strip-accepted, fix-accepted, colour-accepted}
+use Rattle.shot.proofs.OneStrip.{WholeShot, strip-accepted, fix-accepted, colour-accepted}
 use Rattle.netpbm.specs.Header.{headerOf, valuesOf, headerText}
 use Rattle.netpbm.specs.declared.Header.{Header}
 use Rattle.netpbm.specs.declared.Reading.the-variants.{Accepted}
 use Rattle.netpbm.proofs.Grammar.{written-is-read}
 use Rattle.still.specs.Agreement.{callsOf, bytesLeft, FollowsShot, FilesFollowShots, AnswersAreFiles}
-use Rattle.still.specs.Still.{fileChoice, fileMethod, balanced, picture, samplesDue, Legal, fileHeader, fileSamples, answer}
-use Rattle.still.proofs.Answers.{legal-fits, legal-shot, legal-answer, legal-size, is-legal}
+use Rattle.still.specs.Still.{fileChoice, fileMethod, balanced, picture, samplesDue, IsAccepted, fileHeader, fileSamples, answer}
+use Rattle.still.proofs.Answers.{accepted-fits, accepted-shot, accepted-answer, accepted-size, is-accepted}
 
-module _ (file : List ℕ) (legal : Legal file) where
+module _ (file : List ℕ) (accepted : IsAccepted file) where
   abbrev samples : List ℕ
   samples = fileSamples file
 
   abbrev shot : WholeShot (length samples) fileChoice
-  shot = legal-shot file legal
+  shot =
+      let strip = accepted-shot file accepted in
+      record { known = refl; whole = strip .whole; some = strip .some; limit = strip .limit }
 
   module _ (bytes : Bytes file) (destination : List ℕ) (same : length destination ≡ length samples) where
     -- its samples are bytes
@@ -71,7 +72,7 @@ module _ (file : List ℕ) (legal : Legal file) where
     follows-shot = record {
       accepted = calls-accepted;
       written =
-          legal-answer file legal
+          accepted-answer file accepted
           ∙ ap (λ (l : List ℕ). headerText (fileHeader file .width) (fileHeader file .height) ++ l) (sym calls-write);
       accurate = accuracy _ well-formed;
     }
@@ -87,21 +88,21 @@ module _ (file : List ℕ) (legal : Legal file) where
   answer-reads : headerOf (answer file) ≡ Accepted written-header
   unfolding picture
   answer-reads =
-      ap headerOf (legal-answer file legal)
-      ∙ written-is-read _ _ (legal-fits file legal .some) (legal-fits file legal .most) (balanced samples)
+      ap headerOf (accepted-answer file accepted)
+      ∙ written-is-read _ _ (accepted-fits file accepted .some) (accepted-fits file accepted .most) (balanced samples)
 
   answer-exact : length (answer file) - written-header .start ≡ samplesDue written-header
-  answer-exact = omega (arith, legal-size file legal)
+  answer-exact = omega (arith, accepted-size file accepted)
 
   answer-header : fileHeader (answer file) ≡ written-header
   answer-header = ap valuesOf answer-reads
 
 pub files-follow-shots : FilesFollowShots
-files-follow-shots file bytes legal destination same = follows-shot file legal bytes destination same
+files-follow-shots file bytes accepted destination same = follows-shot file accepted bytes destination same
 
 pub answers-are-files : AnswersAreFiles
 answers-are-files = record {
-  legal = λ file legal. is-legal (answer file) _ (answer-reads file legal) (answer-exact file legal);
-  width = λ file legal. ap (λ (h : Header). h .width) (answer-header file legal);
-  height = λ file legal. ap (λ (h : Header). h .height) (answer-header file legal);
+  accepted = λ file accepted. is-accepted (answer file) _ (answer-reads file accepted) (answer-exact file accepted);
+  width = λ file accepted. ap (λ (h : Header). h .width) (answer-header file accepted);
+  height = λ file accepted. ap (λ (h : Header). h .height) (answer-header file accepted);
 }

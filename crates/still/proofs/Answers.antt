@@ -12,22 +12,22 @@ use Rattle.refusal.specs.Refusal.{Check, _refuses_, firstOf, areNumbered}
 use Rattle.refusal.proofs.Laws.{none-applies, accepted-leaves, refused-leaves}
 use Rattle.tables.proofs.Cases.{either}
 use Rattle.text.specs.Text.{Writes}
-use Rattle.shot.specs.Inner.{WholeShot}
+use Rattle.strip_curve.proofs.Laws.{StripAccepted}
 use Rattle.netpbm.specs.Header.{headerOf, numberOf, valuesOf, headerText, Fitting}
 use Rattle.netpbm.specs.declared.Header.{Header}
 use Rattle.netpbm.specs.declared.Reading.{Reading}
 use Rattle.netpbm.specs.declared.Reading.the-variants.{Accepted, Malformed, OtherLargest, OtherSize}
 use Rattle.netpbm.proofs.Accepted.{accepted-headers-fit}
 use Rattle.netpbm.proofs.Readings.{accepted-is}
-use Rattle.still.specs.Inner.{Readable}
+use Rattle.still.specs.Inner.{ValuesFit}
 use Rattle.still.proofs.Samples.{whole-shot, balanced-length}
-use Rattle.still.specs.Still.{fileChoice, balanced, picture, refusalLine, samplesDue, sampleChecks, fileChecks, fileNumber, Legal, fileHeader, fileSamples, answer, outputLimit, outcome}
+use Rattle.still.specs.Still.{balanced, picture, refusalLine, samplesDue, sampleChecks, fileChecks, fileNumber, IsAccepted, fileHeader, fileSamples, answer, outputLimit, outcome}
 
 -- every header that was read keeps what the checks lean on
-pub file-readable : (file : List ℕ) → Readable (fileHeader file) (length file)
-file-readable file = go (headerOf file) refl
+pub file-values-fit : (file : List ℕ) → ValuesFit (fileHeader file) (length file)
+file-values-fit file = go (headerOf file) refl
   where
-    go : (reading : Reading) → headerOf file ≡ reading → Readable (valuesOf reading) (length file)
+    go : (reading : Reading) → headerOf file ≡ reading → ValuesFit (valuesOf reading) (length file)
     go (Accepted header) reads =
         let fits = accepted-headers-fit file header reads in
         record { starts = fits .starts; most = fits .most }
@@ -57,47 +57,47 @@ file-passed reading size e =
     let (header, (few, (many, _))) = none-applies (fileChecks reading size) (header-numbered (numberOf reading) (sampleChecks due present) refl) e in
     (eqb-true _ _ (not-false _ header), omega (arith, ltb-false present due few, ltb-false due present many))
 
--- A legal file.
-module _ (file : List ℕ) (legal : Legal file) where
+-- An accepted file.
+module _ (file : List ℕ) (accepted : IsAccepted file) where
   passed : (numberOf (headerOf file) ≡ 0) × (length file - fileHeader file .start ≡ samplesDue (fileHeader file))
   unfolding fileNumber
-  passed = file-passed (headerOf file) (length file) legal
+  passed = file-passed (headerOf file) (length file) accepted
 
   -- its header is accepted
-  legal-reads : headerOf file ≡ Accepted (fileHeader file)
-  legal-reads = accepted-is (headerOf file) (passed .0)
+  accepted-reads : headerOf file ≡ Accepted (fileHeader file)
+  accepted-reads = accepted-is (headerOf file) (passed .0)
 
-  pub legal-fits : Fitting (fileHeader file) (length file)
-  legal-fits = accepted-headers-fit file (fileHeader file) legal-reads
+  pub accepted-fits : Fitting (fileHeader file) (length file)
+  accepted-fits = accepted-headers-fit file (fileHeader file) accepted-reads
 
   -- it has exactly the samples due
-  pub legal-exact : length (fileSamples file) ≡ samplesDue (fileHeader file)
-  legal-exact = length-drop (fileHeader file .start) file ∙ passed .1
+  pub accepted-exact : length (fileSamples file) ≡ samplesDue (fileHeader file)
+  accepted-exact = length-drop (fileHeader file .start) file ∙ passed .1
 
-  -- so they make a whole shot
-  pub legal-shot : WholeShot (length (fileSamples file)) fileChoice
-  legal-shot = whole-shot _ _ legal-exact (legal-fits .some) (legal-fits .most)
+  -- so they can be taken as a whole shot
+  pub accepted-shot : StripAccepted (length (fileSamples file))
+  accepted-shot = whole-shot _ _ accepted-exact (accepted-fits .some) (accepted-fits .most)
 
   -- and its answer is a picture
-  pub legal-answer : answer file ≡ picture (fileHeader file .width) (fileHeader file .height) (fileSamples file)
+  pub accepted-answer : answer file ≡ picture (fileHeader file .width) (fileHeader file .height) (fileSamples file)
   unfolding answer
-  legal-answer = accepted-leaves (fileNumber file) _ _ legal
+  accepted-answer = accepted-leaves (fileNumber file) _ _ accepted
 
-  pub legal-size : length (answer file) ≡ length (headerText (fileHeader file .width) (fileHeader file .height)) + samplesDue (fileHeader file)
+  pub accepted-size : length (answer file) ≡ length (headerText (fileHeader file .width) (fileHeader file .height)) + samplesDue (fileHeader file)
   unfolding picture
-  legal-size =
+  accepted-size =
       omega (
         arith,
-        ap length legal-answer,
+        ap length accepted-answer,
         length-append (headerText (fileHeader file .width) (fileHeader file .height)) (balanced (fileSamples file)),
-        balanced-length (fileSamples file) (legal-shot .whole),
-        legal-exact,
+        balanced-length (fileSamples file) (accepted-shot .whole),
+        accepted-exact,
       )
 
--- a header that is accepted, with exactly the samples due, makes a legal file
-pub is-legal : (file : List ℕ) (header : Header) → headerOf file ≡ Accepted header → length file - header .start ≡ samplesDue header → Legal file
+-- a header that is accepted, with exactly the samples due, makes an accepted file
+pub is-accepted : (file : List ℕ) (header : Header) → headerOf file ≡ Accepted header → length file - header .start ≡ samplesDue header → IsAccepted file
 unfolding fileNumber
-is-legal file header reads exact =
+is-accepted file header reads exact =
     rw (
       reads,
       le-ltb (length file - header .start) (samplesDue header) (omega (arith, exact)),

@@ -21,17 +21,17 @@ use Rattle.netpbm.specs.declared.Reading.the-variants.{Accepted, Malformed, Oth
 use Rattle.netpbm.proofs.Accepted.{accepted-headers-fit}
 use Rattle.netpbm.proofs.Written.{written-headers-fit}
 use Rattle.still.specs.Limits.{inputLimit, largestFile, OneByteMore, FirstBytesAreEnough, AnswersFit}
-use Rattle.still.specs.Still.{picture, refusalLine, samplesDue, fileChecks, fileNumber, Legal, fileHeader, fileSamples, answer, outputLimit, Outcome, outcome}
-use Rattle.still.proofs.Answers.{legal-fits, legal-exact, legal-answer, legal-size, is-legal, refused-answer}
+use Rattle.still.specs.Still.{picture, refusalLine, samplesDue, fileChecks, fileNumber, IsAccepted, fileHeader, fileSamples, answer, outputLimit, Outcome, outcome}
+use Rattle.still.proofs.Answers.{accepted-fits, accepted-exact, accepted-answer, accepted-size, is-accepted, refused-answer}
 use Rattle.still.proofs.Sizes.{refusal-short, number-small}
 
--- a legal file is its header and its samples
-file-size : (file : List ℕ) → Legal file → length file ≡ fileHeader file .start + samplesDue (fileHeader file)
-file-size file legal =
-    omega (arith, legal-fits file legal .starts, legal-exact file legal, length-drop (fileHeader file .start) file)
+-- an accepted file is its header and its samples
+file-size : (file : List ℕ) → IsAccepted file → length file ≡ fileHeader file .start + samplesDue (fileHeader file)
+file-size file accepted =
+    omega (arith, accepted-fits file accepted .starts, accepted-exact file accepted, length-drop (fileHeader file .start) file)
 
-legal-within : (file : List ℕ) → Legal file → length file < inputLimit
-legal-within file legal = omega (arith, file-size file legal, legal-fits file legal .short, legal-fits file legal .most)
+accepted-within : (file : List ℕ) → IsAccepted file → length file < inputLimit
+accepted-within file accepted = omega (arith, file-size file accepted, accepted-fits file accepted .short, accepted-fits file accepted .most)
 
 largest-size : length largestFile + 1 ≡ inputLimit
 unfolding largestFile
@@ -43,8 +43,8 @@ largest-reads = refl
 
 pub one-byte-more : OneByteMore
 one-byte-more = record {
-  within = legal-within;
-  legal = is-legal largestFile _ largest-reads (omega (arith, largest-size));
+  within = accepted-within;
+  accepted = is-accepted largestFile _ largest-reads (omega (arith, largest-size));
   largest = largest-size;
 }
 
@@ -95,13 +95,13 @@ unfolding answer fileNumber
 answers-fit file =
     either-leaves (fileNumber file) (picture (fileHeader file .width) (fileHeader file .height) (fileSamples file)) (refusalLine (fileNumber file))
     (λ (l : List ℕ). length l ≤ outputLimit)
-    (λ legal.
-    let fits = legal-fits file legal in
+    (λ accepted.
+    let fits = accepted-fits file accepted in
     omega (
       arith,
       written-headers-fit (fileHeader file .width) (fileHeader file .height) (fits .some) (fits .most),
-      ap length (legal-answer file legal),
-      legal-size file legal,
+      ap length (accepted-answer file accepted),
+      accepted-size file accepted,
       fits .most,
     ))
     (omega (arith, refusal-short (fileNumber file) (number-small (headerOf file) (length file))))

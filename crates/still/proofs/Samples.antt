@@ -1,5 +1,5 @@
 -- Colouring the samples of a picture.
-use mathlib.Core.Path.{_≡_, refl}
+use mathlib.Core.Path.{_≡_}
 use mathlib.Core.Bool.{true}
 use mathlib.Core.List.{List, [], _∷_}
 use Prim.Native.Nat.{ℕ, _*_, _%_, _≤_, _<_}
@@ -8,9 +8,9 @@ use borrow.Author.Tests.{eq-eqb}
 use lib.ListN.{length}
 use Rattle.pixel.specs.Methods.{methodOf}
 use Rattle.pixel.specs.Strip.{isWhole}
+use Rattle.curve.specs.Curve.{curveOf}
+use Rattle.strip_curve.proofs.Laws.{StripAccepted}
 use Rattle.colouring.proofs.Written.{coloured-length}
-use Rattle.shot.specs.Shot.{curveOf}
-use Rattle.shot.specs.Inner.{WholeShot}
 use Rattle.netpbm.specs.Header.{areaLimit}
 use Rattle.still.specs.Still.{fileChoice, fileMethod, balanced}
 
@@ -18,10 +18,10 @@ use Rattle.still.specs.Still.{fileChoice, fileMethod, balanced}
 threes-whole : (n : ℕ) → isWhole (3 * n) ≡ true
 threes-whole n = eq-eqb (3 * n % 3) 0 (omega arith)
 
--- the samples of a picture of legal size make a whole shot
-pub whole-shot : (area samples : ℕ) → samples ≡ 3 * area → 0 < area → area ≤ areaLimit → WholeShot samples fileChoice
+-- the samples of a picture of accepted size can be taken as a whole shot
+pub whole-shot : (area samples : ℕ) → samples ≡ 3 * area → 0 < area → area ≤ areaLimit → StripAccepted samples
 whole-shot area samples exact some most =
-    record { known = refl; whole = rw exact (threes-whole area); some = omega arith; limit = omega arith }
+    record { whole = rw exact (threes-whole area); some = omega arith; limit = omega arith }
 
 -- coloured samples are as many
 pub balanced-length : (samples : List ℕ) → isWhole (length samples) ≡ true → length (balanced samples) ≡ length samples

@@ -9,7 +9,7 @@ use Rattle.book.specs.Accuracy.{Accurate}
 use Rattle.book.specs.Book.{Call, Call.measuring, Call.fixing, Call.colouring}
 use Rattle.book.specs.Run.{Step, trace, number}
 use Rattle.netpbm.specs.Header.{headerText}
-use Rattle.still.specs.Still.{fileChoice, fileMethod, fileHeader, fileSamples, answer, Legal}
+use Rattle.still.specs.Still.{fileChoice, fileMethod, fileHeader, fileSamples, answer, IsAccepted}
 
 -- The calls that a picture takes, into a destination that may hold anything: a new shot is measured by its samples, fixed, and used to
 -- colour them.
@@ -35,14 +35,14 @@ pub record FollowsShot (file destination : List ℕ) : Type 0 where
   -- and demand 3 holds of them
   pub accurate : Accurate (callsOf (fileSamples file) destination)
 
--- Claim: that is so for every legal file. Proved: proofs/Agreement.antt, `files-follow-shots`.
+-- Claim: that is so for every accepted file. Proved: proofs/Agreement.antt, `files-follow-shots`.
 abbrev pub FilesFollowShots : Type 0
 FilesFollowShots =
-    (file : List ℕ) → Bytes file → Legal file → (destination : List ℕ) → length destination ≡ length (fileSamples file)
+    (file : List ℕ) → Bytes file → IsAccepted file → (destination : List ℕ) → length destination ≡ length (fileSamples file)
     → FollowsShot file destination
 
--- Claim: what is written for a legal file is a legal file of the same size. Proved: proofs/Agreement.antt, `answers-are-files`.
+-- Claim: what is written for an accepted file is an accepted file of the same size. Proved: proofs/Agreement.antt, `answers-are-files`.
 pub record AnswersAreFiles : Type 0 where
-  pub legal : (file : List ℕ) → Legal file → Legal (answer file)
-  pub width : (file : List ℕ) → Legal file → fileHeader (answer file) .width ≡ fileHeader file .width
-  pub height : (file : List ℕ) → Legal file → fileHeader (answer file) .height ≡ fileHeader file .height
+  pub accepted : (file : List ℕ) → IsAccepted file → IsAccepted (answer file)
+  pub width : (file : List ℕ) → IsAccepted file → fileHeader (answer file) .width ≡ fileHeader file .width
+  pub height : (file : List ℕ) → IsAccepted file → fileHeader (answer file) .height ≡ fileHeader file .height

@@ -5,20 +5,20 @@ use Prim.Native.Nat.{ℕ, _+_, _*_, _≤_, _<_}
 use lib.ListN.{length, take, replicate}
 use Rattle.text.specs.Text.{ascii}
 use Rattle.netpbm.specs.Header.{headerLimit, areaLimit}
-use Rattle.still.specs.Still.{answer, outputLimit, Legal}
+use Rattle.still.specs.Still.{answer, outputLimit, IsAccepted}
 
 -- So many bytes of a file are read: a header, three samples to a pixel, and one byte.
 abbrev pub inputLimit : ℕ
 inputLimit = headerLimit + 3 * areaLimit + 1
 
--- A legal file of the largest size.
+-- An accepted file of the largest size.
 unfoldable pub largestFile : List ℕ
 largestFile = ascii "P6" ++ replicate 50 32 ++ ascii "128 128\n255\n" ++ replicate (3 * areaLimit) 0
 
--- Claim: `inputLimit` is one byte more than the largest legal file has. Proved: proofs/Limits.antt, `one-byte-more`.
+-- Claim: `inputLimit` is one byte more than the largest accepted file has. Proved: proofs/Limits.antt, `one-byte-more`.
 pub record OneByteMore : Type 0 where
-  pub within : (file : List ℕ) → Legal file → length file < inputLimit
-  pub legal : Legal largestFile
+  pub within : (file : List ℕ) → IsAccepted file → length file < inputLimit
+  pub accepted : IsAccepted largestFile
   pub largest : length largestFile + 1 ≡ inputLimit
 
 -- Claim: so many bytes of a file are enough. Proved: proofs/Limits.antt, `first-bytes-are-enough`.

@@ -9,8 +9,8 @@ use Rattle.refusal.specs.Refusal.{Check, _refuses_, firstOf, ifAccepted}
 use Rattle.text.specs.Decimal.{decimal}
 use Rattle.text.specs.Text.{ascii, writtenAt}
 use Rattle.pixel.specs.Methods.{methodOf}
+use Rattle.curve.specs.Curve.{curveOf}
 use Rattle.colouring.specs.Colouring.{colouredStrip}
-use Rattle.shot.specs.Shot.{curveOf}
 use Rattle.netpbm.specs.Header.{areaLimit, headerOf, numberOf, valuesOf, headerText, writtenLimit}
 use Rattle.netpbm.specs.declared.Header.{Header}
 use Rattle.netpbm.specs.declared.Reading.{Reading}
@@ -54,9 +54,9 @@ fileChecks reading size =
 unfoldable pub fileNumber : List ℕ → ℕ
 fileNumber file = firstOf (fileChecks (headerOf file) (length file))
 
--- A legal file: no refusal applies.
-abbrev pub Legal : List ℕ → Type 0
-Legal file = fileNumber file ≡ 0
+-- The file is accepted: no refusal applies.
+abbrev pub IsAccepted : List ℕ → Type 0
+IsAccepted file = fileNumber file ≡ 0
 
 -- What a file's header says, and the samples after it.
 abbrev pub fileHeader : List ℕ → Header

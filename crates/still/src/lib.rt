@@ -4,23 +4,20 @@ ghost use Prim.Native.Nat.{_≤_};
 ghost use lib.ListN.{length, replicate};
 ghost use Rattle.refusal.specs.Refusal.{firstOf};
 ghost use Rattle.text.specs.Text.{Writes};
+ghost use Rattle.strip_curve.specs.OneStrip.{stripNumber};
 ghost use Rattle.netpbm.specs.Header.{valuesOf};
-ghost use Rattle.still.specs.Inner.{Colourable, Writable, Readable};
+ghost use Rattle.still.specs.Inner.{PictureFits, ValuesFit};
 ghost use Rattle.still.specs.Limits.{inputLimit};
 ghost use Rattle.still.specs.Still.{balanced, picture, refusalLine, sampleChecks, fileChecks, outputLimit, outcome};
+use curve::Choice;
 use netpbm::Reading;
-use shot::Shot;
+use pixel::Method;
 
-// One byte more than the largest legal file: so many bytes of a file are enough.
+// One byte more than the largest accepted file: so many bytes of a file are enough.
 const INPUT_LIMIT: usize = netpbm::HEADER_LIMIT + 3 * netpbm::AREA_LIMIT as usize + 1;
 
 // An output of so many bytes has room for every answer.
 const OUTPUT_LIMIT: usize = netpbm::WRITTEN_LIMIT + 3 * netpbm::AREA_LIMIT as usize;
-
-// The curve choice and the method for files.
-const CUBE: u32 = 1;
-
-const YANG_LEE: u32 = 2;
 
 // Room for the bytes of a file that are read.
 pub fn input_buffer() -> [u8; INPUT_LIMIT]
@@ -61,7 +58,7 @@ fn samples_number(due: usize, present: usize) -> u32
 
 // File 12, 13, 14, 15, 16, by what reading the header answers and the file's size: 0, or the number of the first that applies.
 fn file_number(reading: Reading, size: usize) -> u32
-    requires { ⌜ Readable (valuesOf reading) size ⌝ }
+    requires { ⌜ ValuesFit (valuesOf reading) size ⌝ }
     ensures { λ r. ⌜ r ≡ firstOf (fileChecks reading size) ⌝ }
 {
     let header = netpbm::values_of(reading);
@@ -73,21 +70,19 @@ fn file_number(reading: Reading, size: usize) -> u32
     samples_number(due, size - header.start)
 }
 
-// Colours the samples of a picture by its own curve.
+// Colours the samples of a picture by their own curve: the cube's, and method 2.
 fn balance_samples(source: &[u8], destination: &mut [u8])
-    requires { ⌜ Colourable (length (now source)) (length (now destination)) ⌝ }
+    requires { ⌜ (stripNumber (now source) ≡ 0) × (length (now destination) ≡ length (now source)) ⌝ }
     ensures { λ _. ⌜ now (destination .exit) ≡ balanced (now (source .entry)) ⌝ }
 {
-    let measured = Shot::open().measure(source);
-    let shot = measured.shot;
-    let fixed = shot.fix(CUBE);
-    let shot = fixed.shot;
-    shot.colour(YANG_LEE, source, destination);
+    let made = strip_curve::curve_of_strip(Choice::Cube, source);
+    let curve = made.curve;
+    colouring::colour_strip(&curve, Method::YangLee, source, destination);
 }
 
 // Writes a picture at the start of the output: a header, and the samples coloured. Hands back how many bytes it has.
 fn write_picture(width: u32, height: u32, samples: &[u8], output: &mut [u8]) -> usize
-    requires { ⌜ Writable width height (length (now samples)) (length (now output)) ⌝ }
+    requires { ⌜ PictureFits width height (length (now samples)) (length (now output)) ⌝ }
     ensures { λ r. ⌜ Writes 0 (picture width height (now (samples .entry))) (now (output .entry)) r (now (output .exit)) ⌝ }
 {
     let first = netpbm::write_header(width, height, output);

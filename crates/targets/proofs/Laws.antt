@@ -6,9 +6,9 @@ use mathlib.Core.List.{List}
 use Prim.Native.Nat.{ℕ, zero, suc, _+_, _*_, _-_, _≤_, _<_}
 use native.Mathlib.Nat.{lt-trans, le-of-suc-le-suc, not-suc-le-zero, le-of-lt, eq-or-lt-of-le}
 use native.Mathlib.Omega.{arith}
-use lib.Dec.{T, leb, ltb, eqb, eqb→eq, ltb→lt, leb→le, le→leb}
+use lib.Dec.{T, leb, ltb, eqb, eqb→eq, ltb→lt, leb→le}
 use lib.ListN.{length, getD}
-use Rattle.rounding.specs.Fraction.{Fraction, whole, _over_, _⊗_, _≼_, _≈_}
+use Rattle.rounding.specs.Fraction.{Fraction, whole, _over_, _⊗_, _≼ᵇ_, _≈_}
 use Rattle.tables.specs.Table.{tabulate}
 use Rattle.tables.proofs.Laws.{is-tabulate}
 use Rattle.targets.specs.Cube.{G, cube}
@@ -48,10 +48,10 @@ high-exact : ℕ → Bool
 high-exact k = leb (cube (765 - k)) (6 * cube 255)
 
 area₂-exact : ℕ → Bool
-area₂-exact k = taken₂ (k over 255) ≼ added₂ (k over 255)
+area₂-exact k = taken₂ (k over 255) ≼ᵇ added₂ (k over 255)
 
 area₃-exact : ℕ → Bool
-area₃-exact k = taken₃ (k over 255) ≼ whole 6
+area₃-exact k = taken₃ (k over 255) ≼ᵇ whole 6
 
 steps-up : ℕ → Bool
 steps-up k = ltb (G k) (G (suc k))
@@ -89,6 +89,6 @@ targets-are-right =
       at510 = refl;
       at765 = refl;
       equation11 = eq11;
-      area₂IsExact = upTo765 area₂-exact tt;
-      area₃IsExact = λ k l h. (le→leb (k * 1) (3 * 255) (omega arith), each-between area₃-exact 510 256 tt k l (omega arith));
+      area₂IsExact = λ k h. leb→le _ _ (upTo765 area₂-exact tt k h);
+      area₃IsExact = λ k l h. (omega arith, leb→le _ _ (each-between area₃-exact 510 256 tt k l (omega arith)));
     }

@@ -1,7 +1,6 @@
 -- What is claimed of the cube's targets. Proved: proofs/Laws.antt, `targets-are-right`.
 use mathlib.Core.Path.{_≡_}
 use Prim.Native.Nat.{ℕ, _+_, _*_, _-_, _≤_, _<_}
-use lib.Dec.{T}
 use Rattle.rounding.specs.Fraction.{whole, _over_, _⊗_, _≼_, _≈_}
 use Rattle.targets.specs.Cube.{G, cube, low, middle, high}
 use Rattle.targets.specs.Paper.{area, added₂, taken₂, taken₃}
@@ -25,5 +24,5 @@ pub record TargetsAreRight : Type 0 where
   -- G(k) is equation 11 at the intensity k/255, without its factor √3/6 and times 255³
   pub equation11 : (k : ℕ) → k ≤ 765 → whole (cube 255) ⊗ area (k over 255) ≈ whole (G k)
   -- and no subtraction of equation 11 is cut off at 0 there
-  pub area₂IsExact : (k : ℕ) → k ≤ 765 → T (taken₂ (k over 255) ≼ added₂ (k over 255))
-  pub area₃IsExact : (k : ℕ) → 510 ≤ k → k ≤ 765 → T (k over 255 ≼ whole 3) × T (taken₃ (k over 255) ≼ whole 6)
+  pub area₂IsExact : (k : ℕ) → k ≤ 765 → taken₂ (k over 255) ≼ added₂ (k over 255)
+  pub area₃IsExact : (k : ℕ) → 510 ≤ k → k ≤ 765 → (k over 255 ≼ whole 3) × (taken₃ (k over 255) ≼ whole 6)

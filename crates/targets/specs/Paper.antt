@@ -1,6 +1,6 @@
 -- Source 004, equation 11: the integral A(l) of the area of the RGB cube's cross section, for an intensity l from 0 to 3.
 use mathlib.Core.Bool.{cond}
-use Rattle.rounding.specs.Fraction.{Fraction, whole, _⊕_, _⊖_, _⊗_, _≼_}
+use Rattle.rounding.specs.Fraction.{Fraction, whole, _⊕_, _⊖_, _⊗_, _≼ᵇ_}
 
 -- 0 ≤ l ≤ 1: A(l) = √3/6 · l³. Here and below the factor √3/6 is left out.
 abbrev pub area₁ : Fraction → Fraction
@@ -24,4 +24,4 @@ abbrev pub area₃ : Fraction → Fraction
 area₃ l = whole 6 ⊖ taken₃ l
 
 unfoldable pub area : Fraction → Fraction
-area l = cond (l ≼ whole 1) (area₁ l) (cond (l ≼ whole 2) (area₂ l) (area₃ l))
+area l = cond (l ≼ᵇ whole 1) (area₁ l) (cond (l ≼ᵇ whole 2) (area₂ l) (area₃ l))

@@ -12,12 +12,11 @@ use Rattle.targets.specs.Cube.{G}
 use Rattle.targets.proofs.EachBetween.{first-of-both, second-of-both}
 use Rattle.pixel.specs.Move.{moved, movedSample, naikMurthy, yangLee}
 use Rattle.pixel.specs.Strip.{Bytes}
-use Rattle.curve.specs.Curve.{shareOf, wholeOf, cubeEntry, equalisedEntry, withEnds, entry, toneCurve}
-use Rattle.curve.specs.Histogram.{sumOfFirst}
+use Rattle.curve.specs.Curve.{shareCount, fullCount, cubeEntry, equalisedEntry, withEnds, entry, toneCurve, curveOf}
 use Rattle.curve.specs.Nearest.{nearer, nearestPlace}
-use Rattle.measuring.specs.Histogram.{withPixels}
+use Rattle.measuring.specs.Histogram.{withPixels, sumOfFirst}
 use Rattle.colouring.specs.Colouring.{colouredStrip}
-use Rattle.shot.specs.Shot.{opened, measured, fixedWith, curveOf, coloured}
+use Rattle.shot.specs.Shot.{opened, measured, fixedWith, coloured}
 use Rattle.book.specs.Book.{Call, Call.opening, Call.measuring, Call.fixing, Call.colouring}
 use Rattle.book.specs.Run.{WellFormed}
 use Rattle.witness.specs.Calls.{calls, WitnessRuns}
@@ -56,5 +55,5 @@ all-well-formed (d ∷ rest) h c m =
     (List·Memᴰ·cases-cons m)
 
 pub witness-runs : WitnessRuns
-unfolding calls opened measured fixedWith coloured withPixels tabulate colouredStrip moved movedSample naikMurthy yangLee near toneCurve entry withEnds cubeEntry equalisedEntry shareOf wholeOf sumOfFirst nearer nearestPlace G curveOf
+unfolding calls opened measured fixedWith coloured withPixels tabulate colouredStrip moved movedSample naikMurthy yangLee near toneCurve entry withEnds cubeEntry equalisedEntry shareCount fullCount sumOfFirst nearer nearestPlace G curveOf
 witness-runs = record { wellFormed = all-well-formed calls tt; numbers = refl; pixels = refl; bytes = refl }

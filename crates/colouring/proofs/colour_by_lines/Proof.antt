@@ -3,7 +3,7 @@ use mathlib.Core.Path.{_≡_, refl}
 use Prim.Native.Nat.{_-_, _%_, _≤_, _<_}
 use native.Mathlib.Omega.{arith}
 use lib.ListN.{length}
-use Rattle.colouring.proofs.Stores.{ColouredTo, inside-source, inside-destination, last-pixel, coloured-start, coloured-end, coloured-one, coloured-two}
+use Rattle.colouring.proofs.Loop.{ColouredTo, inside-source, inside-destination, last-pixel, coloured-start, coloured-end, coloured-one, coloured-two}
 use borrow.Author.Needs.{needs}
 use Rattle.colouring.proofs.colour_by_lines.Statement.{statement}
 use Rattle.colouring.proofs.colour_by_lines.Tie as tie

@@ -2,7 +2,7 @@
 use mathlib.Core.Path.{_∙_}
 use native.Mathlib.Omega.{arith}
 use borrow.Author.Needs.{needs}
-use Rattle.colouring.proofs.Along.{lines-colour}
+use Rattle.colouring.proofs.Lines.{lines-colour}
 use Rattle.colouring.proofs.colour_strip.Statement.{statement}
 use Rattle.colouring.proofs.colour_strip.Tie as tie
 

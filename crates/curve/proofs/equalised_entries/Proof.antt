@@ -9,10 +9,10 @@ use Rattle.curve.proofs.equalised_entries.Statement.{statement}
 use Rattle.curve.proofs.equalised_entries.Tie as tie
 
 abbrev Inv-loop : tie.InvT-loop
-Inv-loop whole shares entries₀ s₀ entries s = Filled (λ s. equalisedEntry whole (at shares s)) 766 entries s
+Inv-loop full shares entries₀ s₀ entries s = Filled (λ s. equalisedEntry full (at shares s)) 766 entries s
 
 abbrev μ-loop : tie.MeasureT-loop
-μ-loop whole shares entries₀ s₀ entries s = 766 - s
+μ-loop full shares entries₀ s₀ entries s = 766 - s
 
 loop-holds : tie.Need-loop-holds Inv-loop μ-loop
 loop-holds c = filled-start _ 766 _ refl

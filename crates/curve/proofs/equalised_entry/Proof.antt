@@ -14,7 +14,7 @@ rounded-requires c κs = search needs
 
 cast-result : tie.Need-cast-result
 unfolding equalisedEntry
-cast-result c = let start = c .before in omega (arith, c .rounded .ensures, equalised-le (start .args .whole) (start .pre .0) (start .pre .2))
+cast-result c = let start = c .before in omega (arith, c .rounded .ensures, equalised-le (start .args .full) (start .pre .0) (start .pre .2))
 
 returns : tie.Need-returns
 unfolding equalisedEntry

@@ -5,9 +5,10 @@ use native.Mathlib.Numerals.{add-one}
 use native.Mathlib.Omega.{arith}
 use denote.Ref.{now}
 use Rattle.tables.proofs.Filling.{Filled, filled-start, filled-more, filled-end}
-use Rattle.curve.specs.Curve.{shareOf, shareAt}
-use Rattle.curve.specs.Histogram.{sumOfFirst, cumulative}
-use Rattle.curve.proofs.Histogram.{sum-start, sum-next, previous-cumulative}
+use Rattle.measuring.specs.Histogram.{sumOfFirst, cumulative}
+use Rattle.measuring.proofs.Cumulative.{sum-start, sum-next}
+use Rattle.curve.specs.Curve.{shareCount, shareAt}
+use Rattle.curve.proofs.Histogram.{previous-cumulative}
 use Rattle.curve.proofs.shares_of.Statement.{statement}
 use Rattle.curve.proofs.shares_of.Tie as tie
 
@@ -33,8 +34,8 @@ wide-requires c κs = tt
 add-upto : tie.Need-add-upto Inv-loop μ-loop
 add-upto c = omega arith
 
-share-requires : tie.Need-share-requires Inv-loop μ-loop
-share-requires c κs = omega arith
+share-count-requires : tie.Need-share-count-requires Inv-loop μ-loop
+share-count-requires c κs = omega arith
 
 mul-shares : tie.Need-mul-shares Inv-loop μ-loop
 mul-shares c = omega arith
@@ -57,7 +58,7 @@ loop-again c =
     let sum = looping .loop .inv .1 in
     let next = sum-next counts (looping .loop .s) (looping .loop .below) (added .wide .result) sum (added .wide .ensures .0) in (
       filled-more _ 766 _ _ _ (looping .loop .inv .0) (testing .loop-test .taken)
-          (c .share .ensures ∙ ap₂ shareOf (sum ∙ previous-cumulative counts (looping .loop .s)) next),
+          (c .share-count .ensures ∙ ap₂ shareCount (sum ∙ previous-cumulative counts (looping .loop .s)) next),
       rw add-one next,
       omega arith,
     )
@@ -76,7 +77,7 @@ shares-of-spec =
     element-copy-out-wide
     wide-requires
     add-upto
-    share-requires
+    share-count-requires
     mul-shares
     array-write-shares
     add-s

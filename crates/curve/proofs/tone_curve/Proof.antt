@@ -6,14 +6,14 @@ use borrow.Author.Needs.{needs}
 use Rattle.tables.specs.Table.{at}
 use Rattle.tables.proofs.Laws.{at-table}
 use Rattle.targets.specs.Cube.{G}
-use Rattle.curve.specs.Histogram.{cumulative}
-use Rattle.curve.proofs.Curve.{whole-le, G-le, shares-fit, aims-fit, scaled-non-decreasing, shares-non-decreasing, cube-curve, equalised-curve}
+use Rattle.measuring.specs.Histogram.{cumulative}
+use Rattle.curve.proofs.Curve.{full-le, G-le, shares-fit, aims-fit, scaled-non-decreasing, shares-non-decreasing, cube-curve, equalised-curve}
 use Rattle.curve.proofs.Histogram.{histogram-is-cumulative}
 use Rattle.curve.proofs.tone_curve.Statement.{statement}
 use Rattle.curve.proofs.tone_curve.Tie as tie
 
-whole-of-requires : tie.Need-whole-of-requires
-whole-of-requires c κs = search needs
+full-count-requires : tie.Need-full-count-requires
+full-count-requires c κs = search needs
 
 shares-of-requires : tie.Need-shares-of-requires
 shares-of-requires c κs = search needs
@@ -27,7 +27,7 @@ table-requires c κs = search needs
 scaled-by-requires : tie.Need-scaled-by-requires
 scaled-by-requires c κs =
     let counted = c .before .before .before .before in
-    (rw (counted .whole-of .ensures) (whole-le (counted .before .pre .most)), c .table .ensures)
+    (rw (counted .full-count .ensures) (full-le (counted .before .pre .most)), c .table .ensures)
 
 array-read-nearest-entries : tie.Need-array-read-nearest-entries
 array-read-nearest-entries c = search needs
@@ -42,18 +42,18 @@ nearest-entries-requires c κs =
     let histogram = start .pre in
     let N = start .args .pixels in
     let H = cumulative (now (start .args .counts)) in
-    let whole = counted .whole-of .result in
+    let full = counted .full-count .result in
     let shares = shared .shares-of .result in
-    let wholeIs = counted .whole-of .ensures in
+    let fullIs = counted .full-count .ensures in
     let sharesAre = shared .shares-of .ensures in
     let is = histogram-is-cumulative histogram in
-    let fit = shares-fit N H whole shares wholeIs sharesAre (histogram .some) (histogram .most) is in
+    let fit = shares-fit N H full shares fullIs sharesAre (histogram .some) (histogram .most) is in
     let top = at-table G 766 (cube .table .result) (cube .table .ensures) 765 (omega arith) in (
       (
-        scaled-non-decreasing N H whole shares wholeIs sharesAre (scaled .scaled-by .result) (scaled .scaled-by .ensures),
-        shares-non-decreasing N H whole shares wholeIs sharesAre is,
+        scaled-non-decreasing N H full shares fullIs sharesAre (scaled .scaled-by .result) (scaled .scaled-by .ensures),
+        shares-non-decreasing N H full shares fullIs sharesAre is,
       ),
-      aims-fit whole shares fit (at (cube .table .result) 765) (le-trans (le-of-eq top) (G-le 765 (omega arith))),
+      aims-fit full shares fit (at (cube .table .result) 765) (le-trans (le-of-eq top) (G-le 765 (omega arith))),
     )
 
 with-ends-requires : tie.Need-with-ends-requires
@@ -68,8 +68,8 @@ equalised-entries-requires c κs =
     let counted = shared .before in
     let start = counted .before in
     let histogram = start .pre in
-    shares-fit (start .args .pixels) (cumulative (now (start .args .counts))) (counted .whole-of .result)
-    (shared .shares-of .result) (counted .whole-of .ensures) (shared .shares-of .ensures) (histogram .some) (histogram .most)
+    shares-fit (start .args .pixels) (cumulative (now (start .args .counts))) (counted .full-count .result)
+    (shared .shares-of .result) (counted .full-count .ensures) (shared .shares-of .ensures) (histogram .some) (histogram .most)
     (histogram-is-cumulative histogram)
 
 with-ends-requires-2 : tie.Need-with-ends-requires-2
@@ -88,7 +88,7 @@ returns c =
     let N = start .args .pixels in
     let H = cumulative (now (start .args .counts)) in
     rw (told .enum-told .given .1)
-    (cube-curve N H (counted .whole-of .result) (shared .shares-of .result) (counted .whole-of .ensures)
+    (cube-curve N H (counted .full-count .result) (shared .shares-of .result) (counted .full-count .ensures)
     (shared .shares-of .ensures) (scaled .scaled-by .result) (scaled .scaled-by .ensures) (at (cube .table .result) 765)
     (filled .nearest-entries .result) (c .with-ends .result) top (filled .nearest-entries .ensures) (c .with-ends .ensures))
 
@@ -102,7 +102,7 @@ returns-2 c =
     let N = start .args .pixels in
     let H = cumulative (now (start .args .counts)) in
     rw (told .enum-told2 .given .1)
-    (equalised-curve N H (counted .whole-of .result) (shared .shares-of .result) (counted .whole-of .ensures)
+    (equalised-curve N H (counted .full-count .result) (shared .shares-of .result) (counted .full-count .ensures)
     (shared .shares-of .ensures) (filled .equalised-entries .result) (c .with-ends2 .result) (filled .equalised-entries .ensures)
     (c .with-ends2 .ensures))
 
@@ -110,7 +110,7 @@ pub tone-curve-spec : {M : Type 1} → statement M
 tone-curve-spec =
     tie.close
     (tie.spec
-    whole-of-requires
+    full-count-requires
     shares-of-requires
     enum-told
     table-requires

@@ -4,12 +4,12 @@ use Prim.Native.Nat.{_-_}
 use native.Mathlib.Omega.{arith}
 use borrow.Author.Needs.{needs}
 use Rattle.tables.proofs.Filling.{Filled, filled-start, filled-more, filled-end}
-use Rattle.measuring.specs.Inner.{together}
+use Rattle.measuring.specs.Inner.{sumOfFour}
 use Rattle.measuring.proofs.added.Statement.{statement}
 use Rattle.measuring.proofs.added.Tie as tie
 
 abbrev Inv-loop : tie.InvT-loop
-Inv-loop first second third fourth counts₀ s₀ counts s = Filled (together first second third fourth) 766 counts s
+Inv-loop first second third fourth counts₀ s₀ counts s = Filled (sumOfFour first second third fourth) 766 counts s
 
 abbrev μ-loop : tie.MeasureT-loop
 μ-loop first second third fourth counts₀ s₀ counts s = 766 - s

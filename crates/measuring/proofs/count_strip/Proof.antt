@@ -11,7 +11,7 @@ use Rattle.tables.specs.Table.{at}
 use Rattle.tables.proofs.Laws.{at-table}
 use Rattle.pixel.specs.Strip.{pixelsOf}
 use Rattle.pixel.proofs.Strips.{whole-means}
-use Rattle.measuring.specs.Inner.{together}
+use Rattle.measuring.specs.Inner.{sumOfFour}
 use Rattle.measuring.specs.Histogram.{withPixels}
 use Rattle.measuring.proofs.Counting.{with-length, with-at, Counting, counting-start, pixel-fits, counting-more, counted-fits, rest-fits, counting-rest}
 use Rattle.measuring.proofs.count_strip.Statement.{statement}
@@ -23,7 +23,7 @@ Inv-loop strip first₀ second₀ third₀ fourth₀ i₀ first second third fou
     × (length second ≡ 766)
     × (length third ≡ 766)
     × (length fourth ≡ 766)
-    × Counting first₀ strip (together first second third fourth) i
+    × Counting first₀ strip (sumOfFour first second third fourth) i
 
 abbrev μ-loop : tie.MeasureT-loop
 μ-loop strip first₀ second₀ third₀ fourth₀ i₀ first second third fourth i = length strip - i
@@ -48,7 +48,7 @@ first-counted : (c : tie.After-count-pixel Inv-loop μ-loop)
     → let at-loop = c .before .before .before in
     let start = at-loop .before .before .args in
     let here = at-loop .loop in
-    Counting (start .start) (now (start .strip)) (together (c .count-pixel .last .0) (here .second) (here .third) (here .fourth)) (here .i + 3)
+    Counting (start .start) (now (start .strip)) (sumOfFour (c .count-pixel .last .0) (here .second) (here .third) (here .fourth)) (here .i + 3)
 first-counted c =
     counting-more (c .before .before .before .loop .inv .4) (omega arith) _ (λ s l. omega (arith, with-at _ _ (c .count-pixel .ensures) s l)) _ refl
 
@@ -66,7 +66,7 @@ second-counted : (c : tie.After-count-pixel2 Inv-loop μ-loop)
     let start = at-loop .before .before .args in
     let here = at-loop .loop in
     Counting (start .start) (now (start .strip))
-    (together (c .before .before .count-pixel .last .0) (c .count-pixel2 .last .0) (here .third) (here .fourth))
+    (sumOfFour (c .before .before .count-pixel .last .0) (c .count-pixel2 .last .0) (here .third) (here .fourth))
     (here .i + 6)
 second-counted c =
     counting-more (first-counted (c .before .before)) (omega arith) _ (λ s l. omega (arith, with-at _ _ (c .count-pixel2 .ensures) s l)) _ (omega arith)
@@ -85,7 +85,7 @@ third-counted : (c : tie.After-count-pixel3 Inv-loop μ-loop)
     let start = at-loop .before .before .args in
     let here = at-loop .loop in
     Counting (start .start) (now (start .strip))
-    (together (c .before .before .before .before .count-pixel .last .0) (c .before .before .count-pixel2 .last .0) (c .count-pixel3 .last .0) (here .fourth))
+    (sumOfFour (c .before .before .before .before .count-pixel .last .0) (c .before .before .count-pixel2 .last .0) (c .count-pixel3 .last .0) (here .fourth))
     (here .i + 9)
 third-counted c =
     counting-more (second-counted (c .before .before)) (omega arith) _ (λ s l. omega (arith, with-at _ _ (c .count-pixel3 .ensures) s l)) _ (omega arith)
@@ -130,10 +130,10 @@ part-count-rest-end c = search needs
 
 -- what the four make, added up
 added-at : (c : tie.After-added Inv-loop μ-loop) → let here = c .before .before .loop in
-    (s : ℕ) → s ≤ 765 → at (c .added .result) s ≡ together (here .first) (here .second) (here .third) (here .fourth) s
+    (s : ℕ) → s ≤ 765 → at (c .added .result) s ≡ sumOfFour (here .first) (here .second) (here .third) (here .fourth) s
 added-at c s l =
     let here = c .before .before .loop in
-    at-table (together (here .first) (here .second) (here .third) (here .fourth)) 766 (c .added .result) (c .added .ensures) s (omega arith)
+    at-table (sumOfFour (here .first) (here .second) (here .third) (here .fourth)) 766 (c .added .result) (c .added .ensures) s (omega arith)
 
 count-rest-requires : tie.Need-count-rest-requires Inv-loop μ-loop
 count-rest-requires c κs =

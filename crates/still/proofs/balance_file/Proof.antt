@@ -11,9 +11,9 @@ use Rattle.text.specs.Text.{Writes}
 use Rattle.netpbm.specs.Header.{valuesOf}
 use Rattle.netpbm.specs.declared.Header.{Header}
 use Rattle.netpbm.specs.declared.Reading.{Reading}
-use Rattle.still.specs.Inner.{Writable, Readable}
-use Rattle.still.specs.Still.{picture, refusalLine, fileChecks, fileNumber, Legal, fileHeader}
-use Rattle.still.proofs.Answers.{file-readable, legal-fits, legal-exact, legal-answer, refused-answer, short-outcome, answer-outcome}
+use Rattle.still.specs.Inner.{PictureFits, ValuesFit}
+use Rattle.still.specs.Still.{picture, refusalLine, fileChecks, fileNumber, IsAccepted, fileHeader}
+use Rattle.still.proofs.Answers.{file-values-fit, accepted-fits, accepted-exact, accepted-answer, refused-answer, short-outcome, answer-outcome}
 use Rattle.still.proofs.Sizes.{refusal-short, number-small}
 use Rattle.still.proofs.balance_file.Statement.{statement}
 use Rattle.still.proofs.balance_file.Tie as tie
@@ -27,7 +27,7 @@ read-header-requires c κs = search needs
 file-number-requires : tie.Need-file-number-requires
 file-number-requires c κs =
     let file = c .before .before .before .before .args .file .now in
-    subst (λ (r : Reading). Readable (valuesOf r) (length file)) (sym (c .read-header .ensures)) (file-readable file)
+    subst (λ (r : Reading). ValuesFit (valuesOf r) (length file)) (sym (c .read-header .ensures)) (file-values-fit file)
 
 -- the number is the file's
 number-is : (c : tie.After-file-number) → c .file-number .result ≡ fileNumber (c .before .before .before .before .before .args .file .now)
@@ -60,8 +60,8 @@ values-of-requires : tie.Need-values-of-requires
 values-of-requires c κs = search needs
 
 -- no refusal applies
-legal : (c : tie.Else2) → Legal (c .before .before .before .before .before .before .args .file .now)
-legal c = sym (number-is (c .before)) ∙ c .if2 .left
+accepted : (c : tie.Else2) → IsAccepted (c .before .before .before .before .before .before .args .file .now)
+accepted c = sym (number-is (c .before)) ∙ c .if2 .left
 
 -- the values are the file's
 header-is : (c : tie.After-values-of) → c .values-of .result ≡ fileHeader (c .before .before .before .before .before .before .before .args .file .now)
@@ -71,7 +71,7 @@ header-is c = c .values-of .ensures ∙ ap valuesOf (c .before .before .before .
 starts : (c : tie.After-values-of) → c .values-of .result .start ≤ length (c .before .before .before .before .before .before .before .args .file .now)
 starts c =
     let file = c .before .before .before .before .before .before .before .args .file .now in
-    subst (λ (header : Header). header .start ≤ length file) (sym (header-is c)) (file-readable file .starts)
+    subst (λ (header : Header). header .start ≤ length file) (sym (header-is c)) (file-values-fit file .starts)
 
 sub-write-picture : tie.Need-sub-write-picture
 sub-write-picture c = starts c
@@ -87,12 +87,12 @@ write-picture-requires c κs =
     let values = c .before .before in
     let start = values .before .before .before .before .before .before .before in
     let file = start .args .file .now in
-    let fits = legal-fits file (legal (values .before)) in
+    let fits = accepted-fits file (accepted (values .before)) in
     subst (λ (header : Header).
-    Writable (header .width) (header .height) (length (take (length file - header .start) (drop (header .start) file))) (length (start .args .output .now)))
+    PictureFits (header .width) (header .height) (length (take (length file - header .start) (drop (header .start) file))) (length (start .args .output .now)))
     (sym (header-is values))
     (record {
-      exact = ap length (part-to-end file (fileHeader file .start)) ∙ legal-exact file (legal (values .before));
+      exact = ap length (part-to-end file (fileHeader file .start)) ∙ accepted-exact file (accepted (values .before));
       some = fits .some;
       most = fits .most;
       room = values .before .before .before .before .if1 .left;
@@ -111,7 +111,7 @@ returns-3 c =
     (subst (λ (text : List ℕ). Writes 0 text (start .args .output .now) (writing .write-picture .result) (writing .write-picture .last .1 .1 .1 .0))
     (ap (λ (header : Header). picture (header .width) (header .height) (take (length file - header .start) (drop (header .start) file))) (header-is values)
     ∙ ap (picture (fileHeader file .width) (fileHeader file .height)) (part-to-end file (fileHeader file .start))
-    ∙ sym (legal-answer file (legal (values .before))))
+    ∙ sym (accepted-answer file (accepted (values .before))))
     (writing .write-picture .ensures))
 
 pub balance-file-spec : {M : Type 1} → statement M

@@ -5,7 +5,7 @@ use native.Mathlib.Omega.{arith}
 use borrow.Author.Needs.{needs}
 use Rattle.refusal.specs.Refusal.{firstOf}
 use Rattle.netpbm.specs.declared.Header.{Header}
-use Rattle.still.specs.Inner.{Readable}
+use Rattle.still.specs.Inner.{ValuesFit}
 use Rattle.still.specs.Still.{samplesDue, sampleChecks}
 use Rattle.still.proofs.Answers.{number-of-samples, number-of-header}
 use Rattle.still.proofs.file_number.Statement.{statement}
@@ -27,14 +27,14 @@ area-requires : tie.Need-area-requires
 area-requires c κs = search needs
 
 -- what the header keeps
-readable : (c : tie.After-values-of) → Readable (c .values-of .result) (c .before .args .size)
-readable c = subst (λ (header : Header). Readable header (c .before .args .size)) (sym (c .values-of .ensures)) (c .before .pre)
+values-fit : (c : tie.After-values-of) → ValuesFit (c .values-of .result) (c .before .args .size)
+values-fit c = subst (λ (header : Header). ValuesFit header (c .before .args .size)) (sym (c .values-of .ensures)) (c .before .pre)
 
 mul-due : tie.Need-mul-due
-mul-due c = record { fits = omega (arith, c .area .ensures, readable (c .before .before .before) .most) }
+mul-due c = record { fits = omega (arith, c .area .ensures, values-fit (c .before .before .before) .most) }
 
 sub-samples-number : tie.Need-sub-samples-number
-sub-samples-number c = readable (c .before .before .before .before) .starts
+sub-samples-number c = values-fit (c .before .before .before .before) .starts
 
 samples-number-requires : tie.Need-samples-number-requires
 samples-number-requires c κs = search needs

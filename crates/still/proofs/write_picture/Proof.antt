@@ -8,6 +8,7 @@ use borrow.Rule.Slice.PartMut.{putMid, mid-len}
 use lib.ListN.{length}
 use Rattle.text.specs.Text.{Writes}
 use Rattle.text.proofs.Runs.{writes-room, writes-more, part-writes}
+use Rattle.strip_curve.proofs.Laws.{strip-accepted}
 use Rattle.netpbm.proofs.Written.{written-headers-fit}
 use Rattle.still.specs.Still.{picture}
 use Rattle.still.proofs.Samples.{whole-shot, balanced-length}
@@ -42,11 +43,10 @@ part-balance-samples-end c = room (c .before .before)
 
 balance-samples-requires : tie.Need-balance-samples-requires
 balance-samples-requires c κs =
-    let start = c .before .before .before .before .before .before .before in
-    record {
-      shot = whole-shot _ _ (start .pre .exact) (start .pre .some) (start .pre .most);
-      same = mid-len (c .before .before .before .write-header .result) _ _ (room (c .before .before .before)) ∙ omega arith;
-    }
+    let start = c .before .before .before .before .before .before .before in (
+      strip-accepted (start .args .samples .now) (whole-shot _ _ (start .pre .exact) (start .pre .some) (start .pre .most)),
+      mid-len (c .before .before .before .write-header .result) _ _ (room (c .before .before .before)) ∙ omega arith,
+    )
 
 same-length : tie.Need-same-length
 same-length c = search needs

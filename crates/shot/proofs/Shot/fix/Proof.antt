@@ -8,7 +8,7 @@ use lib.Dec.{eqb}
 use Rattle.refusal.specs.Refusal.{firstOf}
 use Rattle.curve.specs.Choices.{isChoice}
 use Rattle.curve.specs.Curve.{toneCurve}
-use Rattle.curve.specs.Histogram.{cumulative}
+use Rattle.measuring.specs.Histogram.{cumulative}
 use Rattle.curve.specs.declared.Choice.{Choice}
 use Rattle.shot.specs.Shot.{fixChecks, fixedWith}
 use Rattle.shot.specs.declared.Shot.{Shot}

@@ -12,7 +12,8 @@ use Rattle.refusal.specs.Refusal.{firstOf}
 use Rattle.tables.proofs.Cases.{either}
 use Rattle.pixel.specs.Strip.{isWhole}
 use Rattle.shot.specs.Reachable.{Reachable}
-use Rattle.shot.specs.Shot.{pixelLimit, measureChecks, measured}
+use Rattle.measuring.specs.Histogram.{pixelLimit}
+use Rattle.shot.specs.Shot.{measureChecks, measured}
 use Rattle.shot.specs.declared.Shot.{Shot}
 use Rattle.shot.proofs.Answers.{answer-refused, answer-accepted}
 use Rattle.shot.proofs.Passed.{MeasuringAccepted, measure-passed}

@@ -1,0 +1,27 @@
+-- `pixel::line_of` meets its contract.
+use borrow.Author.Needs.{needs}
+use Rattle.pixel.proofs.line_of.Statement.{statement}
+use Rattle.pixel.proofs.line_of.Tie as tie
+
+enum-told : tie.Need-enum-told
+enum-told c = search needs
+
+naik-murthy-requires : tie.Need-naik-murthy-requires
+naik-murthy-requires c κs = search needs
+
+enum-told-2 : tie.Need-enum-told-2
+enum-told-2 c = search needs
+
+yang-lee-requires : tie.Need-yang-lee-requires
+yang-lee-requires c κs = search needs
+
+returns : tie.Need-returns
+returns c = rw (c .before .enum-told .given .1) (c .naik-murthy .ensures)
+
+returns-2 : tie.Need-returns-2
+returns-2 c = rw (c .before .enum-told2 .given .1) (c .yang-lee .ensures)
+
+pub line-of-spec : {M : Type 1} → statement M
+line-of-spec =
+    tie.close
+    (tie.spec enum-told naik-murthy-requires enum-told-2 yang-lee-requires returns returns-2)

@@ -7,17 +7,17 @@ use Prim.Native.Nat.{ℕ}
 use native.Mathlib.Omega.{arith}
 use lib.ListN.{length}
 use Rattle.tables.specs.Table.{_among_}
-use Rattle.colouring.specs.Written.{Written, colouredPixels, AtMostTwoBelow}
-use Rattle.colouring.proofs.Written.{coloured-pixels-are-exact, coloured-pixels-are-accurate, one-curve-keeps-order}
+use Rattle.colouring.specs.Written.{Written}
+use Rattle.colouring.proofs.Written.{Carried, written-in, colouring-accurate, colourings-keep-order}
 use Rattle.shot.specs.Reachable.{Reachable, Reachable.byOpening, Reachable.byMeasuring, Reachable.byFixing}
 use Rattle.shot.specs.Shot.{Outcome, coloured}
 use Rattle.shot.specs.declared.Shot.{Shot}
-use Rattle.book.specs.Accuracy.{requested, writtenFor, written, StepAccurate, CallsAreAccurate}
+use Rattle.book.specs.Accuracy.{entries, colouringOf, colouringIn, written, StepAccurate, CallsAreAccurate}
 use Rattle.book.specs.Book.{Call, Call.opening, Call.measuring, Call.fixing, Call.colouring, Book}
 use Rattle.book.specs.Run.{step, Step, number, traceFrom, trace, Occurs, WellFormed}
-use Rattle.book.proofs.Pixels.{step-size, step-untouched, ByBook, step-written}
-use Rattle.book.proofs.Sound.{Sound, represents, shape, some-same, sound-opened, answers-agree, sound-step}
-use Rattle.book.proofs.Steps.{Past, past-start, past-more}
+use Rattle.book.proofs.Colourings.{curve-of-call, carried}
+use Rattle.book.proofs.Represents.{HoldsBook, represents, shape, some-same, holds-empty-book, answers-agree, holds-after}
+use Rattle.book.proofs.Steps.{BookAfter, after-none, after-more}
 
 -- what stands first in equal lists, and what follows it
 cons-head : {A : Type 0} {a b : A} {l k : List A} → a ∷ l ≡ b ∷ k → a ≡ b
@@ -47,27 +47,27 @@ reachable-step r (fixing choice) ok = byFixing r choice
 reachable-step r (colouring q) ok = r
 
 -- what holds at a step after the steps `before`
-record Good (before : List Step) (t : Step) : Type 0 where
+record StepFacts (before : List Step) (t : Step) : Type 0 where
   reachable : Reachable (t .shot)
-  sound : Sound (t .shot) (t .book)
-  past : Past (t .openings) (t .book) before
+  holds : HoldsBook (t .shot) (t .book)
+  after : BookAfter (t .openings) (t .book) before
   did : t .outcome ≡ step (t .shot) (t .call)
   brings : WellFormed (t .call)
 
 -- it holds at every step
-all-good : (calls : List Call) → ((c : Call) → c among calls → WellFormed c)
-    → {n : ℕ} {x : Shot} {b : Book} {past : List Step} → Reachable x → Sound x b → Past n b past
-    → (before : List Step) (t : Step) → Occurs (traceFrom n x b calls) before t → Good (past ++ before) t
-all-good [] ok r h p before t o = absurd (no-step before t o)
-all-good (c ∷ cs) ok {n} {x} {b} {past} r h p [] t o =
+facts-from : (calls : List Call) → ((c : Call) → c among calls → WellFormed c)
+    → {n : ℕ} {x : Shot} {b : Book} {steps : List Step} → Reachable x → HoldsBook x b → BookAfter n b steps
+    → (before : List Step) (t : Step) → Occurs (traceFrom n x b calls) before t → StepFacts (steps ++ before) t
+facts-from [] ok r h p before t o = absurd (no-step before t o)
+facts-from (c ∷ cs) ok {n} {x} {b} {steps} r h p [] t o =
     rw (sym (cons-head (o .split)), append-nil)
-    (record { reachable = r; sound = h; past = p; did = refl; brings = ok c (List·Memᴰ·head refl) })
-all-good (c ∷ cs) ok {n} {x} {b} {past} r h p (u ∷ before) t o =
+    (record { reachable = r; holds = h; after = p; did = refl; brings = ok c (List·Memᴰ·head refl) })
+facts-from (c ∷ cs) ok {n} {x} {b} {steps} r h p (u ∷ before) t o =
     let s : Step = record { call = c; openings = n; shot = x; book = b; outcome = step x c } in
     let now = ok c (List·Memᴰ·head refl) in
-    let others = all-good cs (λ d m. ok d (List·Memᴰ·tail m)) (reachable-step r c now) (sound-step h c now)
-    (past-more p s refl refl (answers-agree (represents h) c)) before t (rest o) in
-    subst (λ (l : List Step). Good l t) (append-assoc past (s ∷ []) before ∙ ap (λ (v : Step). past ++ (v ∷ before)) (cons-head (o .split))) others
+    let others = facts-from cs (λ d m. ok d (List·Memᴰ·tail m)) (reachable-step r c now) (holds-after h c now)
+    (after-more p s refl refl (answers-agree (represents h) c)) before t (rest o) in
+    subst (λ (l : List Step). StepFacts l t) (append-assoc steps (s ∷ []) before ∙ ap (λ (v : Step). steps ++ (v ∷ before)) (cons-head (o .split))) others
 
 -- two steps of one list: the same, or one stands before the other
 in-order : {steps : List Step} (before before' : List Step) (t u : Step) → Occurs steps before t → Occurs steps before' u
@@ -82,77 +82,77 @@ in-order (v ∷ before) (v' ∷ before') t u o o' =
     (in-order before before' t u (record { after = o .after; split = refl })
     (record { after = o' .after; split = cons-tail (sym (o .split) ∙ o' .split) }))
 
--- what a step wrote, it wrote by its book's curve
-by-book : (before : List Step) (t : Step) → Good before t → (w : Written) → w among written t → ByBook (t .book) w
-by-book before t g w m =
-    step-written (g .sound) (t .call) (g .brings) w
-    (subst (λ (o : Outcome). w among writtenFor (o .answer .number) (t .book) (requested (t .call)) (o .bytes)) (g .did) m)
+-- what a step leaves, taken as a colouring
+step-carried : (before : List Step) (t : Step) → StepFacts before t → Carried (colouringIn t)
+step-carried before t g =
+    subst (λ (o : Outcome). Carried (colouringOf (t .book) (t .call) o)) (sym (g .did)) (carried (g .holds) (t .call) (g .brings))
+
+-- a step that wrote a pixel has a curve
+step-curve : (before : List Step) (t : Step) → StepFacts before t → (w : Written) → w among written t
+    → (curve : List ℕ) × (t .book .curve ≡ some curve)
+step-curve before t g w m =
+    let is = written-in (colouringIn t) (step-carried before t g) w m in
+    curve-of-call (g .holds) (t .call) (sym (ap (λ (o : Outcome). o .answer .number) (g .did)) ∙ is .accepted) (is .some)
 
 -- steps of one shot that both have a curve have the same one
-one-curve : (before before' : List Step) (t u : Step) → Good before t → Good before' u → t .openings ≡ u .openings
+one-curve : (before before' : List Step) (t u : Step) → StepFacts before t → StepFacts before' u → t .openings ≡ u .openings
     → (t ≡ u) ⊎ ((t among before') ⊎ (u among before))
     → (c d : List ℕ) → t .book .curve ≡ some c → u .book .curve ≡ some d → c ≡ d
 one-curve before before' t u g h same order c d ec ed =
     ⊎-elim (λ (e : t ≡ u). some-same (sym ec ∙ ap (λ (s : Step). s .book .curve) e ∙ ed))
     (λ (k : (t among before') ⊎ (u among before)).
-    ⊎-elim (λ (m : t among before'). some-same (sym (h .past .kept t m same c ec) ∙ ed))
-    (λ (m : u among before). some-same (sym ec ∙ g .past .kept u m (sym same) d ed))
+    ⊎-elim (λ (m : t among before'). some-same (sym (h .after .kept t m same c ec) ∙ ed))
+    (λ (m : u among before). some-same (sym ec ∙ g .after .kept u m (sym same) d ed))
     k)
     order
 
--- two pixels written by one curve
-below-two : (v w : Written) {b d : Book} → ByBook b v → ByBook d w
-    → ((c k : List ℕ) → b .curve ≡ some c → d .curve ≡ some k → c ≡ k) → AtMostTwoBelow v w
-below-two v w p q same =
-    one-curve-keeps-order (p .method) (q .method) (p .curve) (p .source) (q .source) (p .shape) (p .bytes) (q .bytes) v w (p .member)
-    (subst (λ (l : List ℕ). w among colouredPixels (q .method) l (q .source))
-    (sym (same (p .curve) (q .curve) (p .isCurve) (q .isCurve))) (q .member))
+-- so two steps of one shot that wrote pixels wrote them by the same curve
+same-entries : (before before' : List Step) (t u : Step) → StepFacts before t → StepFacts before' u → t .openings ≡ u .openings
+    → (t ≡ u) ⊎ ((t among before') ⊎ (u among before))
+    → (v w : Written) → v among written t → w among written u → entries (t .book .curve) ≡ entries (u .book .curve)
+same-entries before before' t u g h same order v w mv mw =
+    let (c, ec) = step-curve before t g v mv in
+    let (d, ed) = step-curve before' u h w mw in
+    ap entries ec ∙ one-curve before before' t u g h same order c d ec ed ∙ sym (ap entries ed)
 
 -- what follows for each step
-step-accurate : (before : List Step) (t : Step) → Good before t → StepAccurate before t
+step-accurate : (before : List Step) (t : Step) → StepFacts before t → StepAccurate before t
 step-accurate before t g =
     record {
       premise = g .reachable;
-      represents = represents (g .sound);
-      strips = g .past .strips;
-      answer = answered ∙ answers-agree (represents (g .sound)) (t .call);
-      curve = g .past .fixed;
-      shape = shape (g .sound);
-      size = ap (λ (o : Outcome). length (o .bytes)) (g .did) ∙ step-size (t .shot) (t .call);
-      untouched =
-          λ refused.
-          ap (λ (o : Outcome). o .bytes) (g .did) ∙ step-untouched (t .shot) (t .call) (λ e. refused (answered ∙ e));
-      exact =
-          λ w m.
-          let p = by-book before t g w m in
-          coloured-pixels-are-exact (p .method) (p .curve) (p .source) w (p .member);
-      rules =
-          λ w m.
-          let p = by-book before t g w m in
-          coloured-pixels-are-accurate (p .method) (p .curve) (p .source) (p .shape) (p .bytes) w (p .member);
+      represents = represents (g .holds);
+      strips = g .after .strips;
+      answer = answered ∙ answers-agree (represents (g .holds)) (t .call);
+      curve = g .after .fixed;
+      shape = shape (g .holds);
+      colouring = colouring-accurate (colouringIn t) (step-carried before t g);
     }
   where
     answered : number t ≡ step (t .shot) (t .call) .answer .number
     answered = ap (λ (o : Outcome). o .answer .number) (g .did)
 
 -- every list starts from a freshly opened shot
-good-steps : (calls : List Call) → ((c : Call) → c among calls → WellFormed c)
-    → (before : List Step) (t : Step) → Occurs (trace calls) before t → Good before t
-good-steps calls ok = all-good calls ok byOpening sound-opened past-start
+step-facts : (calls : List Call) → ((c : Call) → c among calls → WellFormed c)
+    → (before : List Step) (t : Step) → Occurs (trace calls) before t → StepFacts before t
+step-facts calls ok = facts-from calls ok byOpening holds-empty-book after-none
 
 -- what a step's call brings is as asked
 pub step-brings : (calls : List Call) → ((c : Call) → c among calls → WellFormed c)
     → (before : List Step) (t : Step) → Occurs (trace calls) before t → WellFormed (t .call)
-step-brings calls ok before t o = good-steps calls ok before t o .brings
+step-brings calls ok before t o = step-facts calls ok before t o .brings
 
 pub accuracy : CallsAreAccurate
 accuracy calls ok =
     record {
-      steps = λ before t o. step-accurate before t (good-steps calls ok before t o);
+      steps = λ before t o. step-accurate before t (step-facts calls ok before t o);
       order =
           λ before before' t u o o' same v w mv mw.
-          let g = good-steps calls ok before t o in
-          let h = good-steps calls ok before' u o' in
-          below-two v w (by-book before t g v mv) (by-book before' u h w mw)
-          (one-curve before before' t u g h same (in-order before before' t u o o'));
+          let g = step-facts calls ok before t o in
+          let h = step-facts calls ok before' u o' in
+          colourings-keep-order (colouringIn t) (colouringIn u) (step-carried before t g) (step-carried before' u h)
+          (same-entries before before' t u g h same (in-order before before' t u o o') v w mv mw)
+          v
+          w
+          mv
+          mw;
     }

@@ -1,4 +1,5 @@
-pub mod Sound
+pub mod Run
+pub mod Represents
 pub mod Steps
-pub mod Pixels
+pub mod Colourings
 pub mod Accuracy

@@ -1,4 +1,4 @@
--- What a step of the list has behind it.
+-- The book after some steps of the list.
 use mathlib.Core.Path.{_≡_, refl, sym, ap, _∙_, subst}
 use mathlib.Core.Bool.{Bool, true, false, cond, true≢false, false≢true}
 use mathlib.Core.List.{List, [], _∷_, _++_, append-assoc, append-nil, List·Memᴰ·head, List·Memᴰ·tail, List·Memᴰ·not-nil, List·Memᴰ·append-cases, Memᴰ·append-left, Memᴰ·append-right, List·Memᴰ·eq-of-singleton}
@@ -14,7 +14,7 @@ use Rattle.curve.specs.Curve.{curveOf}
 use Rattle.book.specs.Accuracy.{stripOf, stripsMeasured, FixedBy}
 use Rattle.book.specs.Book.{Call, Call.opening, Call.measuring, Call.fixing, Call.colouring, Book, emptyBook, expectedAnswer, entered, bookStep}
 use Rattle.book.specs.Run.{Step, number, isOpening}
-use Rattle.book.proofs.Sound.{no-curve, some-same}
+use Rattle.book.proofs.Represents.{no-curve, some-same}
 
 -- an opening empties the book
 book-opened : (b : Book) (c : Call) → isOpening c ≡ true → bookStep b c ≡ emptyBook
@@ -84,17 +84,17 @@ measured-none n (t ∷ ts) less =
       measured-none n ts (λ u m. less u (List·Memᴰ·tail m)),
     )
 
--- the book b, before a call with n openings before it, after the steps `past`
-pub record Past (n : ℕ) (b : Book) (past : List Step) : Type 0 where
-  pub openings : (u : Step) → u among past → u .openings ≤ n
-  pub strips : b .strips ≡ stripsMeasured n past
-  pub fixed : (curve : List ℕ) → b .curve ≡ some curve → FixedBy n past curve
+-- b is the book after these steps, n of which are openings
+pub record BookAfter (n : ℕ) (b : Book) (steps : List Step) : Type 0 where
+  pub openings : (u : Step) → u among steps → u .openings ≤ n
+  pub strips : b .strips ≡ stripsMeasured n steps
+  pub fixed : (curve : List ℕ) → b .curve ≡ some curve → FixedBy n steps curve
   -- a curve of the same shot is still the book's
-  pub kept : (u : Step) → u among past → u .openings ≡ n → (curve : List ℕ) → u .book .curve ≡ some curve → b .curve ≡ some curve
+  pub kept : (u : Step) → u among steps → u .openings ≡ n → (curve : List ℕ) → u .book .curve ≡ some curve → b .curve ≡ some curve
 
 -- before the first call
-pub past-start : Past 0 emptyBook []
-past-start = record {
+pub after-none : BookAfter 0 emptyBook []
+after-none = record {
   openings = λ u m. absurd (List·Memᴰ·not-nil m);
   strips = refl;
   fixed = λ curve e. absurd (no-curve e);
@@ -102,21 +102,21 @@ past-start = record {
 }
 
 -- one step more
-module _ {n : ℕ} {b : Book} {past : List Step} (h : Past n b past) (s : Step) (first : s .openings ≡ n) (book : s .book ≡ b)
+module _ {n : ℕ} {b : Book} {steps : List Step} (h : BookAfter n b steps) (s : Step) (first : s .openings ≡ n) (book : s .book ≡ b)
     (answer : number s ≡ expectedAnswer b (s .call)) where
   -- the steps with this one
   abbrev more : List Step
-  more = past ++ (s ∷ [])
+  more = steps ++ (s ∷ [])
 
   -- what holds of the steps so far and of this one holds of all
-  one-more : (P : Step → Type 0) → ((u : Step) → u among past → P u) → P s → (u : Step) → u among more → P u
+  one-more : (P : Step → Type 0) → ((u : Step) → u among steps → P u) → P s → (u : Step) → u among more → P u
   one-more P old new u m =
-      ⊎-elim (λ (k : u among past). old u k) (λ (k : u among (s ∷ [])). subst P (sym (List·Memᴰ·eq-of-singleton k)) new)
-      (List·Memᴰ·append-cases past m)
+      ⊎-elim (λ (k : u among steps). old u k) (λ (k : u among (s ∷ [])). subst P (sym (List·Memᴰ·eq-of-singleton k)) new)
+      (List·Memᴰ·append-cases steps m)
 
   -- an opening puts a new shot in its place
-  past-opening : Past (suc n) emptyBook more
-  past-opening =
+  after-opening : BookAfter (suc n) emptyBook more
+  after-opening =
       let less = one-more (λ (u : Step). u .openings < suc n) (λ u m. omega (arith, h .openings u m)) (omega arith) in
       record {
         openings = λ u m. omega (arith, less u m);
@@ -135,7 +135,7 @@ module _ {n : ℕ} {b : Book} {past : List Step} (h : Past n b past) (s : Step) 
     strips-more : next .strips ≡ stripsMeasured n more
     strips-more =
         book-strips b (s .call) same
-        ∙ sym (measured-append n past (s ∷ []) ∙ simp (eq-eqb (s .openings) n first, answer, sym (h .strips), append-nil))
+        ∙ sym (measured-append n steps (s ∷ []) ∙ simp (eq-eqb (s .openings) n first, answer, sym (h .strips), append-nil))
 
     -- a curve stays
     curve-stays : (curve : List ℕ) → b .curve ≡ some curve → next .curve ≡ some curve
@@ -147,7 +147,7 @@ module _ {n : ℕ} {b : Book} {past : List Step} (h : Past n b past) (s : Step) 
         let (accepted, m) = book-made b (s .call) curve none-yet e in
         record {
           fix = s;
-          member = Memᴰ·append-right past (List·Memᴰ·head refl);
+          member = Memᴰ·append-right steps (List·Memᴰ·head refl);
           sameShot = first;
           choice = m .choice;
           call = m .call;
@@ -168,8 +168,8 @@ module _ {n : ℕ} {b : Book} {past : List Step} (h : Past n b past) (s : Step) 
         }
 
     -- so the same holds before the next call
-    past-within : Past n next more
-    past-within = record {
+    after-others : BookAfter n next more
+    after-others = record {
       openings = one-more (λ (u : Step). u .openings ≤ n) (h .openings) (omega arith);
       strips = strips-more;
       fixed = fixed-more (b .curve) refl;
@@ -180,9 +180,9 @@ module _ {n : ℕ} {b : Book} {past : List Step} (h : Past n b past) (s : Step) 
     }
 
   -- after any call
-  pub past-more : Past (cond (isOpening (s .call)) (suc n) n) (bookStep b (s .call)) more
-  past-more = go (isOpening (s .call)) refl
+  pub after-more : BookAfter (cond (isOpening (s .call)) (suc n) n) (bookStep b (s .call)) more
+  after-more = go (isOpening (s .call)) refl
     where
-      go : (o : Bool) → isOpening (s .call) ≡ o → Past (cond o (suc n) n) (bookStep b (s .call)) more
-      go true o = subst (λ (d : Book). Past (suc n) d more) (sym (book-opened b (s .call) o)) past-opening
-      go false o = past-within o
+      go : (o : Bool) → isOpening (s .call) ≡ o → BookAfter (cond o (suc n) n) (bookStep b (s .call)) more
+      go true o = subst (λ (d : Book). BookAfter (suc n) d more) (sym (book-opened b (s .call) o)) after-opening
+      go false o = after-others o

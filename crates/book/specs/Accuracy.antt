@@ -10,20 +10,26 @@ use lib.ListN.{length}
 use Rattle.tables.specs.Table.{at, _among_}
 use Rattle.pixel.specs.Methods.{methodOf}
 use Rattle.curve.specs.Curve.{curveOf, IsToneCurve}
-use Rattle.measuring.specs.Histogram.{pixelsIn, countOf}
-use Rattle.colouring.specs.Written.{Written, WrittenExact, WrittenAccurate, pixelsWritten, AtMostTwoBelow}
+use Rattle.measuring.specs.Histogram.{pixelLimit, pixelsIn, countOf, countUpTo, cumulative}
+use Rattle.colouring.specs.Written.{Written, Colouring, writtenBy, ColouringAccurate, AtMostTwoBelow}
 use Rattle.shot.specs.Reachable.{Reachable}
-use Rattle.shot.specs.Shot.{ColourRequest}
+use Rattle.shot.specs.Shot.{ColourRequest, Outcome}
 use Rattle.shot.specs.declared.Shot.{Shot}
 use Rattle.book.specs.Book.{Call, Call.opening, Call.measuring, Call.fixing, Call.colouring, Book, hasCurve, expectedAnswer}
 use Rattle.book.specs.Run.{Step, number, trace, Occurs, WellFormed}
 
 -- What the shot keeps is what the book holds.
 pub record Represents (x : Shot) (b : Book) : Type 0 where
-  -- each count is the number of held pixels of that sum
+  -- each count is the number of held pixels of that intensity
   pub counts : (s : ℕ) → s ≤ 765 → at (x .counts) s ≡ countOf (pixelsIn (b .strips)) s
   -- N is the number of held pixels
   pub pixels : x .pixels ≡ length (pixelsIn (b .strips))
+  -- "H(s) is the number of measured pixels whose sum is at most s": the counts up to s add up to it
+  pub upTo : (s : ℕ) → s ≤ 765 → cumulative (x .counts) s ≡ countUpTo (pixelsIn (b .strips)) s
+  -- "so H(765) = N"
+  pub last : countUpTo (pixelsIn (b .strips)) 765 ≡ x .pixels
+  -- "At most 16,777,216 pixels to a shot."
+  pub limit : x .pixels ≤ pixelLimit
   -- the shot is fixed exactly if the book has a curve, and then by that curve
   pub fixed : x .fixed ≡ hasCurve (b .curve)
   pub curve : (c : List ℕ) → b .curve ≡ some c → x .curve ≡ c
@@ -67,20 +73,30 @@ abbrev pub entries : Option (List ℕ) → List ℕ
 entries none = []
 entries (some curve) = curve
 
--- The pixels of a request that got this number and left these bytes: those of an accepted colouring, each with the book's entry for
--- its sum. A refused one writes none.
-abbrev pub writtenFor : ℕ → Book → ColourRequest → List ℕ → List Written
-writtenFor answer b q bytes = cond (eqb answer 0) (pixelsWritten (methodOf (q .method)) (entries (b .curve)) (q .source) bytes) []
+-- A call with its outcome, taken as a colouring by the book's curve: a call that asks for no pixel is a colouring of none.
+abbrev pub colouringOf : Book → Call → Outcome → Colouring
+colouringOf b c o =
+    record {
+      number = o .answer .number;
+      method = methodOf (requested c .method);
+      curve = entries (b .curve);
+      source = requested c .source;
+      before = requested c .destination;
+      after = o .bytes;
+    }
 
--- The pixels written in a step.
+-- A step taken so, and the pixels written in it: each has the book's entry for its intensity.
+abbrev pub colouringIn : Step → Colouring
+colouringIn t = colouringOf (t .book) (t .call) (t .outcome)
+
 abbrev pub written : Step → List Written
-written t = writtenFor (number t) (t .book) (requested (t .call)) (t .outcome .bytes)
+written t = writtenBy (colouringIn t)
 
 -- What holds at the step t, after the steps `before`.
 pub record StepAccurate (before : List Step) (t : Step) : Type 0 where
   -- the premise of the call's contract is met
   pub premise : Reachable (t .shot)
-  -- the tally, N and the curve that the shot keeps are the book's
+  -- the tally, H, N and the curve that the shot keeps are the book's, and N is within the limit
   pub represents : Represents (t .shot) (t .book)
   -- the book holds the strips of all accepted measurings since the last opening, in order
   pub strips : t .book .strips ≡ stripsMeasured (t .openings) before
@@ -90,13 +106,9 @@ pub record StepAccurate (before : List Step) (t : Step) : Type 0 where
   pub curve : (c : List ℕ) → t .book .curve ≡ some c → FixedBy (t .openings) before c
   -- a curve has 766 entries, the first 0 and the last 765, none above 765 and none less than the one before
   pub shape : (c : List ℕ) → t .book .curve ≡ some c → IsToneCurve c
-  -- a colouring leaves the destination as long as it was, and a refused one leaves every byte of it
-  pub size : length (t .outcome .bytes) ≡ length (requested (t .call) .destination)
-  pub untouched : (number t ≡ 0 → ⊥) → t .outcome .bytes ≡ requested (t .call) .destination
-  -- every pixel written is the source pixel, moved to the entry by the method (demand 2)
-  pub exact : (w : Written) → w among written t → WrittenExact w
-  -- "every pixel written keeps four rules"
-  pub rules : (w : Written) → w among written t → WrittenAccurate w
+  -- a colouring leaves the destination as long as it was, and a refused one leaves every byte of it; every pixel written is exact
+  -- (demand 2), and "every pixel written keeps four rules"
+  pub colouring : ColouringAccurate (colouringIn t)
 
 -- What holds of a list of calls. (What the last call leaves is covered too: the next step of a longer list starts from it.)
 pub record Accurate (calls : List Call) : Type 0 where

@@ -4,16 +4,27 @@ use mathlib.Core.Bool.{Bool, true, false, cond}
 use mathlib.Core.List.{List, [], _∷_, _++_}
 use Prim.Native.Nat.{ℕ, suc}
 use Rattle.pixel.specs.Strip.{Bytes}
-use Rattle.shot.specs.Shot.{opened, measured, fixedWith, Outcome, coloured}
+use Rattle.shot.specs.Shot.{opened, measured, fixedWith, ColourRequest, Outcome, coloured}
 use Rattle.shot.specs.declared.Shot.{Shot}
 use Rattle.book.specs.Book.{Call, Call.opening, Call.measuring, Call.fixing, Call.colouring, Book, emptyBook, bookStep}
 
--- What the program does on a call, by the definitions that its functions' `ensures` name.
+-- What the program does on a call.
 abbrev pub step : Shot → Call → Outcome
 step x opening = record { answer = record { shot = opened; number = 0 }; bytes = [] }
 step x (measuring strip) = record { answer = measured x strip; bytes = [] }
 step x (fixing choice) = record { answer = fixedWith x choice; bytes = [] }
 step x (colouring q) = coloured x q
+
+-- Claim: on each call `step` gives what the contract of the call's function says. Proved: proofs/Run.antt, `steps-follow-contracts`.
+pub record StepsFollowContracts : Type 0 where
+  -- `Shot::open` hands back `opened`
+  pub opens : (x : Shot) → step x opening .answer .shot ≡ opened
+  -- `Shot::measure` hands back `measured self strip`
+  pub measures : (x : Shot) (strip : List ℕ) → step x (measuring strip) .answer ≡ measured x strip
+  -- `Shot::fix` hands back `fixedWith self choice`
+  pub fixes : (x : Shot) (choice : ℕ) → step x (fixing choice) .answer ≡ fixedWith x choice
+  -- what `Shot::colour` hands back, and what the destination then holds, are `coloured self request`
+  pub colours : (x : Shot) (request : ColourRequest) → step x (colouring request) ≡ coloured x request
 
 -- A call of the list: how many openings stand before it, the shot that it gets, the book before it, and what the program did.
 pub record Step : Type 0 where

@@ -1,2 +1,3 @@
 pub mod TwoPixels
 pub mod Starred
+pub mod Counting

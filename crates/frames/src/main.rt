@@ -1,17 +1,20 @@
 // The reference frames of document 01. The starred ones are proved: specs/Starred.antt. This program runs the others and prints what
 // the calls give; the file stdout beside src/ holds what that must be. The one for `balance` is run by that program itself.
 ghost use mathlib.Core.Path.{_≡_};
+ghost use mathlib.Core.Bool.{cond};
 ghost use Prim.Native.Nat.{_+_, _-_, _≤_};
 ghost use Rattle.pixel.specs.Move.{intensity};
+ghost use Rattle.pixel.specs.Strip.{pixelsOf};
 ghost use Rattle.shot.specs.Reachable.{Reachable};
+ghost use Rattle.frames.specs.Inner.{tonesOf};
 use libc::STDOUT_FILENO;
 use pixel::Moved;
 use pixel::Pixel;
 use shot::Answer;
 use shot::Shot;
 
-// The bytes of a strip with one pixel for each of the 766 sums.
-const EACH_SUM: usize = 2298;
+// The bytes of a strip with one pixel for each of the 766 intensities.
+const EACH_INTENSITY: usize = 2298;
 
 // The bytes of a strip of 4,095 pixels, and how many such strips have 16,777,215 pixels.
 const LONG_STRIP: usize = 12285;
@@ -64,7 +67,7 @@ fn measure(shot: Shot, strip: &[u8]) -> Answer
 
 // 1 if so, else 0.
 fn one_if(so: bool) -> u64
-    ensures { λ r. ⌜ r ≤ 1 ⌝ }
+    ensures { λ r. ⌜ (r ≡ cond so 1 0) × (r ≤ 1) ⌝ }
 {
     if so {
         return 1;
@@ -82,8 +85,8 @@ fn sample(n: usize) -> u8
     255
 }
 
-// A pixel of sum s: red is filled first, then green, then blue.
-fn pixel_of_sum(s: usize) -> Pixel
+// A pixel of intensity s: red is filled first, then green, then blue.
+fn pixel_of_intensity(s: usize) -> Pixel
     requires { ⌜ s ≤ 765 ⌝ }
     ensures { λ p. ⌜ intensity p ≡ s ⌝ }
 {
@@ -93,12 +96,12 @@ fn pixel_of_sum(s: usize) -> Pixel
     Pixel { r, g, b }
 }
 
-// Such a pixel for each sum, 0 to 765, in order.
-fn pixel_of_each_sum() -> [u8; EACH_SUM] {
-    let mut strip = [0u8; EACH_SUM];
+// Such a pixel for each intensity, 0 to 765, in order.
+fn pixel_of_each_intensity() -> [u8; EACH_INTENSITY] {
+    let mut strip = [0u8; EACH_INTENSITY];
     let mut s: usize = 0;
     while s < 766 {
-        let p = pixel_of_sum(s);
+        let p = pixel_of_intensity(s);
         strip[3 * s] = p.r;
         strip[3 * s + 1] = p.g;
         strip[3 * s + 2] = p.b;
@@ -114,23 +117,21 @@ struct Tones {
     before: u64,
 }
 
-// The sum of a pixel.
-fn sum_of(r: u8, g: u8, b: u8) -> u64 {
-    r as u64 + g as u64 + b as u64
-}
-
-// That of a strip with 766 pixels.
-fn tones_of(strip: &[u8; EACH_SUM]) -> Tones {
+// That of a strip.
+fn tones_of(strip: &[u8]) -> Tones
+    ensures { λ r. ⌜ r ≡ tonesOf (pixelsOf (now (strip .entry))) ⌝ }
+{
     let mut black: u64 = 0;
     let mut white: u64 = 0;
     let mut before: u64 = 0;
-    let mut k: usize = 0;
-    while k < 766 {
-        let sum = sum_of(strip[3 * k], strip[3 * k + 1], strip[3 * k + 2]);
-        black += one_if(sum == 0);
-        white += one_if(sum == 765);
+    let mut i: usize = 0;
+    while 3 <= strip.len() - i {
+        let p = pixel::read_pixel(strip, i);
+        let s = pixel::intensity_of(p.r, p.g, p.b);
+        black += one_if(s == 0);
+        white += one_if(s == 765);
         before += one_if(white == 0);
-        k += 1;
+        i += 3;
     }
     Tones {
         black,
@@ -139,7 +140,7 @@ fn tones_of(strip: &[u8; EACH_SUM]) -> Tones {
     }
 }
 
-// The answers to a flat shot's calls, and how a pixel of each sum came out.
+// The answers to a flat shot's calls, and how a pixel of each intensity came out.
 struct FlatShot {
     measured: u32,
     fixed: u32,
@@ -147,17 +148,17 @@ struct FlatShot {
     tones: Tones,
 }
 
-// A shot of three pixels of sum 300, fixed by a choice, colours a pixel of each sum by method 1. As they are filled, those of sum 1
-// to 510 come out black for entry 0 only, and those of sum 255 to 764 white for entry 765 only: so the strip shows the curve, but
-// for its ends, since black and white stay.
+// A shot of three pixels of intensity 300, fixed by a choice, colours a pixel of each intensity by method 1. As they are filled, those
+// of intensity 1 to 510 come out black for entry 0 only, and those of intensity 255 to 764 white for entry 765 only: so the strip
+// shows the curve, but for its ends, since black and white stay.
 fn flat_shot(choice: u32) -> FlatShot {
     let measured = measure(new_shot(), &[100, 100, 100, 50, 100, 150, 255, 45, 0]);
     let shot = measured.shot;
     let fixed = shot.fix(choice);
     let shot = fixed.shot;
-    let source = pixel_of_each_sum();
+    let source = pixel_of_each_intensity();
     // a place that the call did not write would be neither black nor white
-    let mut destination = [1u8; EACH_SUM];
+    let mut destination = [1u8; EACH_INTENSITY];
     let coloured = shot.colour(1, &source, &mut destination);
     let tones = tones_of(&destination);
     FlatShot {
@@ -168,7 +169,8 @@ fn flat_shot(choice: u32) -> FlatShot {
     }
 }
 
-// That shot, on a line of its own. A pixel's place in the strip is its sum, so the pixels before the first white one give its sum.
+// That shot, on a line of its own. A pixel's place in the strip is its intensity, so the pixels before the first white one
+// give the intensity from which on they are white.
 fn print_flat_shot(choice: u32) {
     io::write_all(STDOUT_FILENO, b"flat shot of sum 300 by choice");
     print_number(choice as u64);
@@ -250,6 +252,9 @@ fn main() {
     print_move(1, p, 766);
     print_move(2, p, 765);
     print_move(2, p, 766);
+    // The single move names 7 before 9.
+    print_move(3, p, 765);
+    print_move(3, p, 766);
     // All pixels of sum 300: entries 0 up to 299, 765 from 300.
     print_flat_shot(1);
     print_flat_shot(2);

@@ -96,8 +96,8 @@ pixels-are c e = rw (eq-eqb (measureAnswer c .number) 0 e) refl
 accepts : (c : CurveCall) → length (c .curve) ≡ curveLength → measureAnswer c .number ≡ 0 → fixAnswer c .number ≡ 0 → Accepted c
 unfolding curveOutcome measured fixedWith opened
 accepts c size measured-it fixed-it =
-    let m = measure-passed false 0 (length (c .strip)) measured-it in
-    let f = fix-passed (measureAnswer c .shot .fixed) (c .choice) (measureAnswer c .shot .pixels) fixed-it in
+    let m = measure-passed opened (c .strip) measured-it in
+    let f = fix-passed (measureAnswer c .shot) (c .choice) fixed-it in
     rw (
       f .known,
       eq-eqb (length (c .curve)) curveLength size,

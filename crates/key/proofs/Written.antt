@@ -76,7 +76,7 @@ calls-keep-widths calls ok before t o w m =
     let from = from-bytes (number t) (methodOf (q .method)) (entries (t .book .curve)) (q .source) (t .outcome .bytes)
     (λ e. entries-are-targets (t .book .curve) (accurate .shape))
     (requested-bytes (t .call) (step-brings calls ok before t o)) w m in
-    written-widths w from (accurate .exact w m) (accurate .rules w m)
+    written-widths w from (accurate .colouring .exact w m) (accurate .colouring .rules w m)
 
 pub host-keeps-widths : HostKeepsWidths
 host-keeps-widths c bytes w m =

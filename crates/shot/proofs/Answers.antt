@@ -3,12 +3,10 @@ use mathlib.Core.Path.{_≡_, ap, sym, _∙_}
 use mathlib.Core.List.{List}
 use Prim.Native.Nat.{ℕ}
 use borrow.Author.Tests.{eq-eqb, ne-eqb}
-use lib.ListN.{length}
-use Rattle.refusal.specs.Refusal.{firstOf}
-use Rattle.refusal.proofs.Laws.{refused-leaves}
+use Rattle.refusal.proofs.Laws.{accepted-leaves, refused-leaves}
 use Rattle.pixel.specs.Methods.{methodOf}
 use Rattle.colouring.specs.Colouring.{colouredStrip}
-use Rattle.shot.specs.Shot.{answered, ColourRequest, Outcome, colourChecks, carriedOut, coloured}
+use Rattle.shot.specs.Shot.{answered, ColourRequest, Outcome, colouringOutcome, coloured}
 use Rattle.shot.specs.declared.Shot.{Shot}
 
 -- The answer of a call that changes the shot where it is accepted.
@@ -18,24 +16,19 @@ answer-refused n m x y e refused = rw (ne-eqb m 0 (λ z. refused (e ∙ z)), e)
 pub answer-accepted : (n m : ℕ) (x y z : Shot) → n ≡ m → n ≡ 0 → z ≡ y → record { shot = z; number = n } ≡ answered m y x
 answer-accepted n m x y z e zero same = rw (eq-eqb m 0 (sym e ∙ zero), e, same)
 
--- A colouring that is refused, whatever checks gave its number, leaves every byte.
-pub carried-untouched : (number : ℕ) (x : Shot) (q : ColourRequest) → (number ≡ 0 → ⊥) → carriedOut number x q .bytes ≡ q .destination
-carried-untouched number x q = refused-leaves number (colouredStrip (methodOf (q .method)) (x .curve) (q .source)) (q .destination)
-
 -- A colouring with its checks' number.
-module _ (x : Shot) (q : ColourRequest) (n : ℕ)
-    (e : n ≡ firstOf (colourChecks (x .fixed) (q .method) (length (q .source)) (length (q .destination)))) where
+module _ (x : Shot) (q : ColourRequest) (n : ℕ) (e : n ≡ coloured x q .answer .number) where
   -- leaves the shot with the number, and these bytes
   abbrev left : List ℕ → Outcome
   left bytes = record { answer = record { shot = x; number = n }; bytes = bytes }
 
-  coloured-is : (bytes : List ℕ) → bytes ≡ carriedOut n x q .bytes → coloured x q ≡ left bytes
+  coloured-is : (bytes : List ℕ) → bytes ≡ colouringOutcome n x q .bytes → coloured x q ≡ left bytes
   unfolding coloured
-  coloured-is bytes same = sym (ap left same ∙ ap (λ (number : ℕ). carriedOut number x q) e)
+  coloured-is bytes same = sym (ap left same ∙ ap (λ (number : ℕ). colouringOutcome number x q) e)
 
   pub coloured-refused : (n ≡ 0 → ⊥) → coloured x q ≡ left (q .destination)
-  coloured-refused refused = coloured-is (q .destination) (sym (carried-untouched n x q refused))
+  coloured-refused refused = coloured-is (q .destination) (sym (refused-leaves n _ _ refused))
 
   pub coloured-accepted : (bytes : List ℕ) → n ≡ 0 → bytes ≡ colouredStrip (methodOf (q .method)) (x .curve) (q .source)
       → coloured x q ≡ left bytes
-  coloured-accepted bytes zero same = coloured-is bytes (same ∙ sym (simp (eq-eqb n 0 zero)))
+  coloured-accepted bytes zero same = coloured-is bytes (same ∙ sym (accepted-leaves n _ _ zero))

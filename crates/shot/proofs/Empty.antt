@@ -7,7 +7,6 @@ use native.Mathlib.Nat.{add-zero}
 use native.Mathlib.Omega.{arith}
 use borrow.Author.Tests.{le-ltb}
 use lib.ListN.{length}
-use Rattle.refusal.specs.Refusal.{firstOf}
 use Rattle.tables.specs.Table.{at}
 use Rattle.tables.proofs.Laws.{is-tabulate}
 use Rattle.pixel.specs.Methods.{isMethod}
@@ -15,7 +14,7 @@ use Rattle.colouring.specs.Colouring.{colouredStrip}
 use Rattle.shot.specs.Empty.{EmptyStripsChangeNothing}
 use Rattle.shot.specs.Reachable.{Reachable}
 use Rattle.measuring.specs.Histogram.{pixelLimit, withPixels}
-use Rattle.shot.specs.Shot.{withStrip, measureChecks, measured, coloured}
+use Rattle.shot.specs.Shot.{withStrip, measured, coloured}
 use Rattle.shot.specs.declared.Shot.{Shot}
 use Rattle.shot.proofs.Answers.{answer-accepted}
 use Rattle.shot.proofs.Holds.{reachable-holds}
@@ -34,7 +33,7 @@ empty-measured : (x : Shot) → Reachable x → x .fixed ≡ false → measured 
 unfolding measured
 empty-measured x r unfixed =
     let (ps, h) = reachable-holds r in
-    let accepted : 0 ≡ firstOf (measureChecks (x .fixed) (x .pixels) 0) =
+    let accepted : 0 ≡ measured x [] .number =
     sym (simp (unfixed, le-ltb pixelLimit (x .pixels + 0 / 3) (omega (arith, h .limit)))) in
     sym (answer-accepted 0 _ x (withStrip x []) x accepted refl (sym (with-none x (h .size))))
 

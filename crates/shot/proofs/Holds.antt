@@ -22,7 +22,7 @@ use Rattle.measuring.proofs.Cumulative.{tallies-give-h, h-is-cumulative}
 use Rattle.shot.specs.Reachable.{Reachable, Reachable.byOpening, Reachable.byMeasuring, Reachable.byFixing}
 use Rattle.shot.specs.Shot.{opened, withStrip, measured, withCurve, fixedWith}
 use Rattle.shot.specs.declared.Shot.{Shot}
-use Rattle.shot.proofs.Passed.{Measurable, measure-passed, fix-passed}
+use Rattle.shot.proofs.Passed.{MeasuringAccepted, measure-passed, fix-passed}
 
 pub record Holds (x : Shot) (ps : List Pixel) : Type 0 where
   pub size : length (x .counts) ≡ 766
@@ -31,6 +31,14 @@ pub record Holds (x : Shot) (ps : List Pixel) : Type 0 where
   pub limit : x .pixels ≤ pixelLimit
   pub counted : Counted ps
   pub curve : x .fixed ≡ true → IsToneCurve (x .curve)
+
+-- the counts up to an intensity add up to the pixels of at most it
+pub up-to-of-held : {x : Shot} {ps : List Pixel} → Holds x ps → (s : ℕ) → s ≤ 765 → cumulative (x .counts) s ≡ countUpTo ps s
+up-to-of-held {x} {ps} h = tallies-give-h (x .counts) ps (h .counts)
+
+-- and at 765 that is all of them
+pub last-of-held : {x : Shot} {ps : List Pixel} → Holds x ps → countUpTo ps 765 ≡ x .pixels
+last-of-held {x} {ps} h = h-is-cumulative ps (h .counted) .last ∙ sym (h .pixels)
 
 -- an opened shot holds none
 pub holds-opened : Holds opened []
@@ -46,7 +54,7 @@ holds-opened = record {
 
 -- an accepted strip's pixels join those held
 pub holds-strip : {x : Shot} {ps : List Pixel} → Holds x ps → (strip : List ℕ) → Bytes strip
-    → Measurable (x .fixed) (x .pixels) (length strip) → Holds (withStrip x strip) (ps ++ pixelsOf strip)
+    → MeasuringAccepted x strip → Holds (withStrip x strip) (ps ++ pixelsOf strip)
 unfolding withPixels
 holds-strip {x} {ps} h strip bytes ok = record {
   size = length-tabulate (λ s. at (x .counts) s + countOf (pixelsOf strip) s) 766;
@@ -67,7 +75,7 @@ holds-strip {x} {ps} h strip bytes ok = record {
 curve-of-held : {x : Shot} {ps : List Pixel} → Holds x ps → (choice : ℕ)
     → withCurve x choice .curve ≡ toneCurve (choiceOf choice) (length ps) (countUpTo ps)
 curve-of-held {x} {ps} h choice =
-    tone-curve-same (choiceOf choice) (x .pixels) (cumulative (x .counts)) (countUpTo ps) (tallies-give-h (x .counts) ps (h .counts))
+    tone-curve-same (choiceOf choice) (x .pixels) (cumulative (x .counts)) (countUpTo ps) (up-to-of-held h)
     ∙ ap (λ (n : ℕ). toneCurve (choiceOf choice) n (countUpTo ps)) (h .pixels)
 
 pub curve-of-strips : {x : Shot} (strips : List (List ℕ)) → Holds x (pixelsIn strips) → (choice : ℕ)
@@ -95,10 +103,10 @@ reachable-holds byOpening = ([], holds-opened)
 reachable-holds (byMeasuring {x} r strip bytes) =
     let (ps, h) = reachable-holds r in
     either-leaves _ (withStrip x strip) x (λ (y : Shot). (qs : List Pixel) × Holds y qs)
-    (λ e. (ps ++ pixelsOf strip, holds-strip h strip bytes (measure-passed (x .fixed) (x .pixels) (length strip) e)))
+    (λ e. (ps ++ pixelsOf strip, holds-strip h strip bytes (measure-passed x strip e)))
     (ps, h)
 reachable-holds (byFixing {x} r choice) =
     let (ps, h) = reachable-holds r in
     either-leaves _ (withCurve x choice) x (λ (y : Shot). (qs : List Pixel) × Holds y qs)
-    (λ e. (ps, holds-curve h choice (fix-passed (x .fixed) choice (x .pixels) e .some)))
+    (λ e. (ps, holds-curve h choice (fix-passed x choice e .some)))
     (ps, h)

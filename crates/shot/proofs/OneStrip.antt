@@ -1,6 +1,6 @@
 -- A shot that is opened, measured by one strip and fixed.
 use mathlib.Core.Path.{_≡_, refl, sym, ap, subst, _∙_}
-use mathlib.Core.Bool.{true, false}
+use mathlib.Core.Bool.{true}
 use mathlib.Core.List.{List, [], _∷_, append-nil}
 use Prim.Native.Nat.{ℕ, _+_, _/_, _≤_, _<_}
 use native.Mathlib.Omega.{arith}
@@ -48,7 +48,7 @@ module _ (strip : List ℕ) (bytes : Bytes strip) (choice : ℕ) (ok : WholeShot
   unfolding measured opened
   held =
       subst (Holds (withStrip opened strip)) (sym (append-nil (pixelsOf strip)))
-      (holds-strip holds-opened strip bytes (measure-passed false 0 (length strip) strip-accepted))
+      (holds-strip holds-opened strip bytes (measure-passed opened strip strip-accepted))
 
   -- fixing accepts that
   some-pixels : 0 < withStrip opened strip .pixels

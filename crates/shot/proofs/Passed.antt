@@ -1,47 +1,55 @@
 -- What an accepted call has passed.
 use mathlib.Core.Path.{_≡_, refl}
-use mathlib.Core.Bool.{Bool, true, false}
+use mathlib.Core.Bool.{true}
+use mathlib.Core.List.{List}
 use Prim.Native.Nat.{ℕ, _+_, _/_, _≤_, _<_}
 use native.Mathlib.Omega.{arith}
 use borrow.Author.Tests.{not-false, ltb-false, eqb-false, eqb-true}
-use Rattle.refusal.specs.Refusal.{firstOf}
+use lib.Dec.{ltb, eqb}
+use lib.ListN.{length}
 use Rattle.refusal.proofs.Laws.{none-applies}
 use Rattle.pixel.specs.Methods.{isMethod}
 use Rattle.pixel.specs.Strip.{isWhole}
 use Rattle.measuring.specs.Histogram.{pixelLimit}
 use Rattle.curve.specs.Choices.{isChoice}
-use Rattle.shot.specs.Shot.{measureChecks, fixChecks, colourChecks}
+use Rattle.shot.specs.Shot.{measureChecks, measured, fixChecks, fixedWith, ColourRequest, colourChecks, coloured}
+use Rattle.shot.specs.declared.Shot.{Shot}
 
-pub record Measurable (fixed : Bool) (pixels strip : ℕ) : Type 0 where
-  pub unfixed : fixed ≡ false
-  pub whole : isWhole strip ≡ true
-  pub room : pixels + strip / 3 ≤ pixelLimit
+pub record MeasuringAccepted (x : Shot) (strip : List ℕ) : Type 0 where
+  pub whole : isWhole (length strip) ≡ true
+  pub room : x .pixels + length strip / 3 ≤ pixelLimit
 
-pub measure-passed : (fixed : Bool) (pixels strip : ℕ) → firstOf (measureChecks fixed pixels strip) ≡ 0 → Measurable fixed pixels strip
-measure-passed fixed pixels strip e =
-    let (unfixed, (whole, (room, _))) = none-applies (measureChecks fixed pixels strip) refl e in
-    record { unfixed = unfixed; whole = not-false _ whole; room = ltb-false _ _ room }
+pub measure-passed : (x : Shot) (strip : List ℕ) → measured x strip .number ≡ 0 → MeasuringAccepted x strip
+unfolding measured
+measure-passed x strip e =
+    let (_, (whole, (room, _))) =
+    none-applies (measureChecks (x .fixed) (isWhole (length strip)) (ltb pixelLimit (x .pixels + length strip / 3))) refl e in
+    record { whole = not-false _ whole; room = ltb-false _ _ room }
 
-pub record Fixable (fixed : Bool) (choice pixels : ℕ) : Type 0 where
-  pub unfixed : fixed ≡ false
+pub record FixingAccepted (x : Shot) (choice : ℕ) : Type 0 where
   pub known : isChoice choice ≡ true
-  pub some : 0 < pixels
+  pub some : 0 < x .pixels
 
-pub fix-passed : (fixed : Bool) (choice pixels : ℕ) → firstOf (fixChecks fixed choice pixels) ≡ 0 → Fixable fixed choice pixels
-fix-passed fixed choice pixels e =
-    let (unfixed, (known, (some, _))) = none-applies (fixChecks fixed choice pixels) refl e in
-    record { unfixed = unfixed; known = not-false _ known; some = omega (arith, eqb-false pixels 0 some) }
+pub fix-passed : (x : Shot) (choice : ℕ) → fixedWith x choice .number ≡ 0 → FixingAccepted x choice
+unfolding fixedWith
+fix-passed x choice e =
+    let (_, (known, (some, _))) = none-applies (fixChecks (x .fixed) (isChoice choice) (eqb (x .pixels) 0)) refl e in
+    record { known = not-false _ known; some = omega (arith, eqb-false (x .pixels) 0 some) }
 
-pub record Colourable (fixed : Bool) (method source destination : ℕ) : Type 0 where
-  pub isFixed : fixed ≡ true
-  pub known : isMethod method ≡ true
-  pub whole : isWhole source ≡ true
-  pub same : destination ≡ source
+pub record ColouringAccepted (x : Shot) (q : ColourRequest) : Type 0 where
+  pub isFixed : x .fixed ≡ true
+  pub known : isMethod (q .method) ≡ true
+  pub whole : isWhole (length (q .source)) ≡ true
+  pub same : length (q .destination) ≡ length (q .source)
 
-pub colour-passed : (fixed : Bool) (method source destination : ℕ) → firstOf (colourChecks fixed method source destination) ≡ 0
-    → Colourable fixed method source destination
-colour-passed fixed method source destination e =
-    let (isFixed, (known, (whole, (same, _)))) = none-applies (colourChecks fixed method source destination) refl e in
+pub colour-passed : (x : Shot) (q : ColourRequest) → coloured x q .answer .number ≡ 0 → ColouringAccepted x q
+unfolding coloured
+colour-passed x q e =
+    let (isFixed, (known, (whole, (same, _)))) =
+    none-applies
+    (colourChecks (x .fixed) (isMethod (q .method)) (isWhole (length (q .source))) (eqb (length (q .destination)) (length (q .source))))
+    refl
+    e in
     record {
       isFixed = not-false _ isFixed;
       known = not-false _ known;

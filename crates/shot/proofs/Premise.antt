@@ -1,11 +1,10 @@
 -- What the premise of a shot's calls gives: to the calls' own proofs, and to callers for the next call.
-use mathlib.Core.Path.{_≡_, sym, _∙_, subst}
+use mathlib.Core.Path.{_≡_, sym, subst}
 use mathlib.Core.Bool.{true}
 use mathlib.Core.List.{List}
 use Prim.Native.Nat.{ℕ, _≤_, _<_}
 use native.Mathlib.Omega.{arith}
 use lib.Dec.{eqb}
-use lib.ListN.{length}
 use Rattle.pixel.specs.Strip.{Bytes}
 use Rattle.measuring.specs.Histogram.{pixelLimit}
 use Rattle.measuring.specs.Inner.{CountsFit}
@@ -18,7 +17,7 @@ use Rattle.shot.specs.Shot.{opened, measured, fixedWith, ColourRequest, 
 use Rattle.shot.specs.declared.Shot.{Shot}
 use Rattle.shot.specs.declared.Answer.{Answer}
 use Rattle.shot.proofs.Holds.{reachable-holds}
-use Rattle.shot.proofs.Passed.{Measurable}
+use Rattle.shot.proofs.Passed.{MeasuringAccepted}
 
 module _ {x : Shot} (r : Reachable x) where
   -- a shot's pixels are within the limit
@@ -26,7 +25,7 @@ module _ {x : Shot} (r : Reachable x) where
   within-limit = reachable-holds r .1 .limit
 
   -- the counts can take an accepted strip
-  pub counts-fit : (strip : List ℕ) → Measurable (x .fixed) (x .pixels) (length strip) → CountsFit (x .counts) strip
+  pub counts-fit : (strip : List ℕ) → MeasuringAccepted x strip → CountsFit (x .counts) strip
   counts-fit strip ok =
       let (ps, h) = reachable-holds r in
       record {

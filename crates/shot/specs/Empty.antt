@@ -8,7 +8,8 @@ use Rattle.shot.specs.Reachable.{Reachable}
 use Rattle.shot.specs.Shot.{measured, coloured}
 use Rattle.shot.specs.declared.Shot.{Shot}
 
--- Claim: so it is. Proved: proofs/Empty.antt, `empty-strips-change-nothing`.
+-- Claim: such a measuring or colouring is accepted, hands back the shot as it is, and writes no byte.
+-- Proved: proofs/Empty.antt, `empty-strips-change-nothing`.
 pub record EmptyStripsChangeNothing : Type 0 where
   pub measuring : (x : Shot) → Reachable x → x .fixed ≡ false → measured x [] ≡ record { shot = x; number = 0 }
   pub colouring : (x : Shot) (method : ℕ) → x .fixed ≡ true → isMethod method ≡ true

@@ -23,12 +23,8 @@ abbrev pub answered : ℕ → Shot → Shot → Answer
 answered number y x = record { shot = ifAccepted number y x; number = number }
 
 -- Measure 1, 2, 3. 1: a shot already fixed. 2: the length is not a multiple of 3. 3: the pixels would exceed the limit.
-abbrev pub measureRefusals : Bool → Bool → Bool → List Check
-measureRefusals fixed whole over = fixed refuses 1 ∷ not whole refuses 2 ∷ over refuses 3 ∷ []
-
--- The same, from whether the shot is fixed, its pixels and the strip's length.
-abbrev pub measureChecks : Bool → ℕ → ℕ → List Check
-measureChecks fixed pixels strip = measureRefusals fixed (isWhole strip) (ltb pixelLimit (pixels + strip / 3))
+abbrev pub measureChecks : (fixed whole over : Bool) → List Check
+measureChecks fixed whole over = fixed refuses 1 ∷ not whole refuses 2 ∷ over refuses 3 ∷ []
 
 -- Each accepted strip adds its pixels to the counts and to N.
 abbrev pub withStrip : Shot → List ℕ → Shot
@@ -42,15 +38,15 @@ withStrip x strip =
 
 -- What measuring hands back.
 unfoldable pub measured : Shot → List ℕ → Answer
-measured x strip = answered (firstOf (measureChecks (x .fixed) (x .pixels) (length strip))) (withStrip x strip) x
+measured x strip =
+    answered
+    (firstOf (measureChecks (x .fixed) (isWhole (length strip)) (ltb pixelLimit (x .pixels + length strip / 3))))
+    (withStrip x strip)
+    x
 
 -- Fix 1, 4, 5. 1: a shot already fixed. 4: the curve choice is not 1 or 2. 5: no pixel has been measured.
-abbrev pub fixRefusals : Bool → Bool → Bool → List Check
-fixRefusals fixed known empty = fixed refuses 1 ∷ not known refuses 4 ∷ empty refuses 5 ∷ []
-
--- The same, from whether the shot is fixed, the choice and its pixels.
-abbrev pub fixChecks : Bool → ℕ → ℕ → List Check
-fixChecks fixed choice pixels = fixRefusals fixed (isChoice choice) (eqb pixels 0)
+abbrev pub fixChecks : (fixed known empty : Bool) → List Check
+fixChecks fixed known empty = fixed refuses 1 ∷ not known refuses 4 ∷ empty refuses 5 ∷ []
 
 -- An accepted fixing makes the curve of the choice, from N and the cumulative counts.
 abbrev pub withCurve : Shot → ℕ → Shot
@@ -64,7 +60,8 @@ withCurve x choice =
 
 -- What fixing hands back.
 unfoldable pub fixedWith : Shot → ℕ → Answer
-fixedWith x choice = answered (firstOf (fixChecks (x .fixed) choice (x .pixels))) (withCurve x choice) x
+fixedWith x choice =
+    answered (firstOf (fixChecks (x .fixed) (isChoice choice) (eqb (x .pixels) 0))) (withCurve x choice) x
 
 -- What a colouring brings besides the shot.
 pub record ColourRequest : Type 0 where
@@ -79,19 +76,14 @@ pub record Outcome : Type 0 where
 
 -- Colour 6, 7, 2, 8. 6: a shot not fixed. 7: the method is not 1 or 2. 2: the source's length is not a multiple of 3. 8: destination
 -- and source differ in length.
-abbrev pub colourRefusals : Bool → Bool → Bool → Bool → List Check
-colourRefusals fixed known whole same =
+abbrev pub colourChecks : (fixed known whole same : Bool) → List Check
+colourChecks fixed known whole same =
     not fixed refuses 6 ∷ not known refuses 7 ∷ not whole refuses 2 ∷ not same refuses 8 ∷ []
 
--- The same, from whether the shot is fixed, the method and the lengths of source and destination.
-abbrev pub colourChecks : Bool → ℕ → ℕ → ℕ → List Check
-colourChecks fixed method source destination =
-    colourRefusals fixed (isMethod method) (isWhole source) (eqb destination source)
-
--- A colouring with its answer: an accepted one writes every source pixel, moved to the curve's entry for its sum; a refused one
--- touches no byte. Both hand back the shot as it is.
-abbrev pub carriedOut : ℕ → Shot → ColourRequest → Outcome
-carriedOut number x q =
+-- What a colouring with this number leaves: an accepted one writes every source pixel, moved to the curve's entry for its
+-- intensity; a refused one touches no byte. Both hand back the shot as it is.
+abbrev pub colouringOutcome : ℕ → Shot → ColourRequest → Outcome
+colouringOutcome number x q =
     record {
       answer = record { shot = x; number = number };
       bytes = ifAccepted number (colouredStrip (methodOf (q .method)) (x .curve) (q .source)) (q .destination);
@@ -100,4 +92,8 @@ carriedOut number x q =
 -- What colouring leaves.
 unfoldable pub coloured : Shot → ColourRequest → Outcome
 coloured x q =
-    carriedOut (firstOf (colourChecks (x .fixed) (q .method) (length (q .source)) (length (q .destination)))) x q
+    colouringOutcome
+    (firstOf
+    (colourChecks (x .fixed) (isMethod (q .method)) (isWhole (length (q .source))) (eqb (length (q .destination)) (length (q .source)))))
+    x
+    q

@@ -1,10 +1,8 @@
 // A shot: opened empty, measured strip by strip, fixed once, and then used to colour strips (document 01, "The ground covered").
 ghost use mathlib.Core.Path.{_≡_};
-ghost use Prim.Native.Nat.{_≤_};
 ghost use Rattle.refusal.specs.Refusal.{firstOf};
-ghost use Rattle.measuring.specs.Histogram.{pixelLimit};
 ghost use Rattle.shot.specs.Reachable.{Reachable};
-ghost use Rattle.shot.specs.Shot.{opened, measureRefusals, measureChecks, measured, fixRefusals, fixChecks, fixedWith, colourRefusals, colourChecks, coloured};
+ghost use Rattle.shot.specs.Shot.{opened, measureChecks, measured, fixChecks, fixedWith, colourChecks, coloured};
 
 // A shot's state: how many of its pixels have each intensity, how many they are, and, once it is fixed, its tone curve. Nothing
 // reads the curve of a shot that is not fixed. The counts stay after fixing.
@@ -23,7 +21,7 @@ pub struct Answer {
 
 // Measure 1, 2, 3: 0, or the number of the first that applies.
 fn measure_refusal(fixed: bool, whole: bool, over: bool) -> u32
-    ensures { λ r. ⌜ r ≡ firstOf (measureRefusals fixed whole over) ⌝ }
+    ensures { λ r. ⌜ r ≡ firstOf (measureChecks fixed whole over) ⌝ }
 {
     if fixed {
         return refusal::ALREADY_FIXED;
@@ -37,19 +35,9 @@ fn measure_refusal(fixed: bool, whole: bool, over: bool) -> u32
     0
 }
 
-// The answer for measuring a strip of this length.
-fn measure_number(fixed: bool, pixels: u32, strip: usize) -> u32
-    requires { ⌜ pixels ≤ pixelLimit ⌝ }
-    ensures { λ r. ⌜ r ≡ firstOf (measureChecks fixed pixels strip) ⌝ }
-{
-    // the room left is compared, so that no sum can overflow
-    let room = measuring::PIXEL_LIMIT - (pixels as usize);
-    measure_refusal(fixed, strip % 3 == 0, room < strip / 3)
-}
-
 // Fix 1, 4, 5: 0, or the number of the first that applies.
 fn fix_refusal(fixed: bool, known: bool, empty: bool) -> u32
-    ensures { λ r. ⌜ r ≡ firstOf (fixRefusals fixed known empty) ⌝ }
+    ensures { λ r. ⌜ r ≡ firstOf (fixChecks fixed known empty) ⌝ }
 {
     if fixed {
         return refusal::ALREADY_FIXED;
@@ -63,16 +51,9 @@ fn fix_refusal(fixed: bool, known: bool, empty: bool) -> u32
     0
 }
 
-// The answer for fixing by a choice.
-fn fix_number(fixed: bool, choice: u32, pixels: u32) -> u32
-    ensures { λ r. ⌜ r ≡ firstOf (fixChecks fixed choice pixels) ⌝ }
-{
-    fix_refusal(fixed, curve::is_choice(choice), pixels == 0)
-}
-
 // Colour 6, 7, 2, 8: 0, or the number of the first that applies.
 fn colour_refusal(fixed: bool, known: bool, whole: bool, same: bool) -> u32
-    ensures { λ r. ⌜ r ≡ firstOf (colourRefusals fixed known whole same) ⌝ }
+    ensures { λ r. ⌜ r ≡ firstOf (colourChecks fixed known whole same) ⌝ }
 {
     if !fixed {
         return refusal::NOT_FIXED;
@@ -87,18 +68,6 @@ fn colour_refusal(fixed: bool, known: bool, whole: bool, same: bool) -> u32
         return refusal::LENGTHS_DIFFER;
     }
     0
-}
-
-// The answer for colouring a source into a destination of these lengths.
-fn colour_number(fixed: bool, method: u32, source: usize, destination: usize) -> u32
-    ensures { λ r. ⌜ r ≡ firstOf (colourChecks fixed method source destination) ⌝ }
-{
-    colour_refusal(
-        fixed,
-        pixel::is_method(method),
-        source % 3 == 0,
-        destination == source,
-    )
 }
 
 impl Shot {
@@ -119,7 +88,9 @@ impl Shot {
         requires { ⌜ Reachable self ⌝ }
         ensures { λ r. ⌜ r ≡ measured self (now (strip .entry)) ⌝ }
     {
-        let number = measure_number(self.fixed, self.pixels, strip.len());
+        // the room left is compared, so that nothing can overflow
+        let room = measuring::PIXEL_LIMIT - (self.pixels as usize);
+        let number = measure_refusal(self.fixed, strip.len() % 3 == 0, room < strip.len() / 3);
         if number != 0 {
             return Answer { shot: self, number };
         }
@@ -142,7 +113,7 @@ impl Shot {
         requires { ⌜ Reachable self ⌝ }
         ensures { λ r. ⌜ r ≡ fixedWith self choice ⌝ }
     {
-        let number = fix_number(self.fixed, choice, self.pixels);
+        let number = fix_refusal(self.fixed, curve::is_choice(choice), self.pixels == 0);
         if number != 0 {
             return Answer { shot: self, number };
         }
@@ -163,7 +134,12 @@ impl Shot {
         requires { ⌜ Reachable self ⌝ }
         ensures { λ r. ⌜ coloured self (record { method = method; source = now (source .entry); destination = now (destination .entry) }) ≡ record { answer = r; bytes = now (destination .exit) } ⌝ }
     {
-        let number = colour_number(self.fixed, method, source.len(), destination.len());
+        let number = colour_refusal(
+            self.fixed,
+            pixel::is_method(method),
+            source.len() % 3 == 0,
+            destination.len() == source.len(),
+        );
         if number == 0 {
             let curve = self.curve;
             colouring::colour_strip(&curve, pixel::method_of(method), source, destination);

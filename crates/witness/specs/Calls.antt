@@ -42,7 +42,8 @@ calls =
     ∷ colour 1 both two
     ∷ []
 
--- Claim: so the list runs. Proved: proofs/Calls.antt, `witness-runs`.
+-- Claim: the calls bring bytes, and these are their numbers, how many pixels each writes, and the bytes that each leaves.
+-- Proved: proofs/Calls.antt, `witness-runs`.
 pub record WitnessRuns : Type 0 where
   pub wellFormed : (c : Call) → c among calls → WellFormed c
   pub numbers : map number (trace calls)

@@ -34,11 +34,11 @@ curveCalls =
     ∷ curveCall two 2 run
     ∷ []
 
--- The bytes, in what a call leaves, of the entries for the sums 59, 60, 629 and 630.
+-- The bytes, in what a call leaves, of the entries for the intensities 59, 60, 629 and 630.
 abbrev pub bytesAround : Outcome → List ℕ
 bytesAround o = map (at (o .bytes)) (118 ∷ 119 ∷ 120 ∷ 121 ∷ 1258 ∷ 1259 ∷ 1260 ∷ 1261 ∷ [])
 
--- The bytes of a curve that is 120 for every sum from 1 to 764.
+-- The bytes of a curve that is 120 for every intensity from 1 to 764.
 unfoldable pub level : List ℕ
 level = curveBytes (0 ∷ replicate 764 120 ++ (765 ∷ []))
 
@@ -71,13 +71,13 @@ colourCalls =
     ∷ colourCall (curveOutcome (curveCall two 2 run) .bytes) 2 both two
     ∷ []
 
--- Claim: so these calls run. Proved: proofs/Host.antt, `witness-runs`.
+-- Claim: these are the numbers, the pixels written and the bytes of those calls. Proved: proofs/Host.antt, `witness-runs`.
 pub record WitnessRuns : Type 0 where
   pub curveNumbers : map (λ c. curveOutcome c .number) curveCalls ≡ 4 ∷ 10 ∷ 2 ∷ 5 ∷ 0 ∷ 0 ∷ []
   -- 3, which needs more pixels than can be listed here, by the strip's length: the limit, one pixel more, and a byte more than that
   pub lengths : map (λ n. firstOf (curveChecks true true (isWhole n) (eqb n 0) (ltb pixelLimit (n / 3)))) (50331648 ∷ 50331651 ∷ 50331652 ∷ []) ≡ 0 ∷ 3 ∷ 2 ∷ []
   pub untouched : curveOutcome (curveCall uneven 1 run) .bytes ≡ run
-  -- the strip has a pixel of the sum 60 and one of the sum 630; the cube curve's entries there are 0, 382, 382 and 765, the
+  -- the strip has a pixel of intensity 60 and one of intensity 630; the cube curve's entries there are 0, 382, 382 and 765, the
   -- equalised one's 0, 383, 383 and 765
   pub cube : bytesAround (curveOutcome (curveCall two 1 run)) ≡ 0 ∷ 0 ∷ 126 ∷ 1 ∷ 126 ∷ 1 ∷ 253 ∷ 2 ∷ []
   pub equalised : bytesAround (curveOutcome (curveCall two 2 run)) ≡ 0 ∷ 0 ∷ 127 ∷ 1 ∷ 127 ∷ 1 ∷ 253 ∷ 2 ∷ []

@@ -1,16 +1,16 @@
--- Strips that the witnesses of `book` and `host` compute with.
+-- The strips of the computed calls, on a shot and by the host.
 use mathlib.Core.List.{List, [], _∷_}
 use Prim.Native.Nat.{ℕ}
 
--- Two pixels, of the sums 60 and 630.
+-- Two pixels, of intensities 60 and 630.
 abbrev pub two : List ℕ
 two = 10 ∷ 20 ∷ 30 ∷ 200 ∷ 210 ∷ 220 ∷ []
 
--- One pixel, of the sum 300.
+-- One pixel, of intensity 300.
 abbrev pub one : List ℕ
 one = 90 ∷ 100 ∷ 110 ∷ []
 
--- Two pixels to be coloured, of the sums 60 and 300.
+-- Two pixels to be coloured, of intensities 60 and 300.
 abbrev pub both : List ℕ
 both = 10 ∷ 20 ∷ 30 ∷ 90 ∷ 100 ∷ 110 ∷ []
 

@@ -16,8 +16,8 @@ measure-requires c κs = search needs
 fix-requires : tie.Need-fix-requires
 fix-requires c κs = search needs
 
-pixel-of-each-sum-requires : tie.Need-pixel-of-each-sum-requires
-pixel-of-each-sum-requires c κs = search needs
+pixel-of-each-intensity-requires : tie.Need-pixel-of-each-intensity-requires
+pixel-of-each-intensity-requires c κs = search needs
 
 slice-aggregate-colour : tie.Need-slice-aggregate-colour
 slice-aggregate-colour c = search needs
@@ -29,6 +29,9 @@ colour-requires : tie.Need-colour-requires
 colour-requires c κs =
     let fixing = c .before .before .before .before in
     from-fix _ (fixing .before .before .measure .ensures) (fixing .fix .ensures)
+
+slice-aggregate-tones-of : tie.Need-slice-aggregate-tones-of
+slice-aggregate-tones-of c = search needs
 
 tones-of-requires : tie.Need-tones-of-requires
 tones-of-requires c κs = search needs
@@ -44,9 +47,10 @@ flat-shot-spec =
     slice-aggregate-measure
     measure-requires
     fix-requires
-    pixel-of-each-sum-requires
+    pixel-of-each-intensity-requires
     slice-aggregate-colour
     slice-aggregate-colour-2
     colour-requires
+    slice-aggregate-tones-of
     tones-of-requires
     returns)

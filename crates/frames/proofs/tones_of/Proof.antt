@@ -1,44 +1,29 @@
--- `frames::tones_of` is safe, and its loop ends. No number is larger than that of the pixels passed.
-use Prim.Native.Nat.{_-_, _≤_}
+-- `frames::tones_of` meets its contract.
+use Prim.Native.Nat.{_-_}
+use native.Mathlib.Omega.{arith}
 use borrow.Author.Needs.{needs}
+use lib.ListN.{length}
+use Rattle.frames.proofs.Counting.{Counted, counted-start, counted-more, counted-all}
 use Rattle.frames.proofs.tones_of.Statement.{statement}
 use Rattle.frames.proofs.tones_of.Tie as tie
 
 abbrev Inv-loop : tie.InvT-loop
-Inv-loop strip black₀ white₀ before₀ k₀ black white before k = (black ≤ k) × (white ≤ k) × (before ≤ k) × (k ≤ 766)
+Inv-loop strip black₀ white₀ before₀ i₀ black white before i = Counted strip black white before i
 
 abbrev μ-loop : tie.MeasureT-loop
-μ-loop strip black₀ white₀ before₀ k₀ black white before k = 766 - k
+μ-loop strip black₀ white₀ before₀ i₀ black white before i = length strip - i
 
 loop-holds : tie.Need-loop-holds Inv-loop μ-loop
-loop-holds c = search needs
+loop-holds c = counted-start _
 
-mul-sum-of : tie.Need-mul-sum-of Inv-loop μ-loop
-mul-sum-of c = search needs
+sub-loop : tie.Need-sub-loop Inv-loop μ-loop
+sub-loop c = search needs
 
-element-copy-out-sum-of : tie.Need-element-copy-out-sum-of Inv-loop μ-loop
-element-copy-out-sum-of c = search needs
+read-pixel-requires : tie.Need-read-pixel-requires Inv-loop μ-loop
+read-pixel-requires c κs = search needs
 
-mul-sum-of-2 : tie.Need-mul-sum-of-2 Inv-loop μ-loop
-mul-sum-of-2 c = search needs
-
-add-sum-of : tie.Need-add-sum-of Inv-loop μ-loop
-add-sum-of c = search needs
-
-element-copy-out-sum-of-2 : tie.Need-element-copy-out-sum-of-2 Inv-loop μ-loop
-element-copy-out-sum-of-2 c = search needs
-
-mul-sum-of-3 : tie.Need-mul-sum-of-3 Inv-loop μ-loop
-mul-sum-of-3 c = search needs
-
-add-sum-of-2 : tie.Need-add-sum-of-2 Inv-loop μ-loop
-add-sum-of-2 c = search needs
-
-element-copy-out-sum-of-3 : tie.Need-element-copy-out-sum-of-3 Inv-loop μ-loop
-element-copy-out-sum-of-3 c = search needs
-
-sum-of-requires : tie.Need-sum-of-requires Inv-loop μ-loop
-sum-of-requires c κs = search needs
+intensity-of-requires : tie.Need-intensity-of-requires Inv-loop μ-loop
+intensity-of-requires c κs = search needs
 
 one-if-requires : tie.Need-one-if-requires Inv-loop μ-loop
 one-if-requires c κs = search needs
@@ -58,17 +43,24 @@ one-if-requires-3 c κs = search needs
 add-before : tie.Need-add-before Inv-loop μ-loop
 add-before c = search needs
 
-add-k : tie.Need-add-k Inv-loop μ-loop
-add-k c = search needs
+add-i : tie.Need-add-i Inv-loop μ-loop
+add-i c = search needs
 
 loop-less : tie.Need-loop-less Inv-loop μ-loop
 loop-less c = search needs
 
 loop-again : tie.Need-loop-again Inv-loop μ-loop
-loop-again c = search needs
+loop-again c =
+    let tested = c .before .before in
+    let reading = tested .before .before in
+    counted-more (reading .before .before .loop .inv) (omega arith) _ _ _ _ _ (reading .read-pixel .ensures)
+    (tested .before .intensity-of .ensures .0)
+    (tested .one-if .ensures .0)
+    (c .before .one-if2 .ensures .0)
+    (c .one-if3 .ensures .0)
 
 returns : tie.Need-returns Inv-loop μ-loop
-returns c = search needs
+returns c = counted-all (c .before .loop .inv) (omega arith)
 
 pub tones-of-spec : {M : Type 1} → statement M
 tones-of-spec =
@@ -77,22 +69,16 @@ tones-of-spec =
     Inv-loop
     μ-loop
     loop-holds
-    mul-sum-of
-    element-copy-out-sum-of
-    mul-sum-of-2
-    add-sum-of
-    element-copy-out-sum-of-2
-    mul-sum-of-3
-    add-sum-of-2
-    element-copy-out-sum-of-3
-    sum-of-requires
+    sub-loop
+    read-pixel-requires
+    intensity-of-requires
     one-if-requires
     add-black
     one-if-requires-2
     add-white
     one-if-requires-3
     add-before
-    add-k
+    add-i
     loop-less
     loop-again
     returns)

@@ -6,7 +6,6 @@ use mathlib.Core.Option.{Option, none, some}
 use Prim.Native.Nat.{ℕ}
 use borrow.Author.Tests.{eqb-true}
 use lib.Dec.{eqb}
-use lib.ListN.{length}
 use Rattle.tables.proofs.Cases.{cond-same}
 use Rattle.pixel.specs.Strip.{pixelsOf, Bytes}
 use Rattle.pixel.proofs.Strips.{length-pixels}
@@ -14,24 +13,33 @@ use Rattle.measuring.specs.Histogram.{pixelsIn}
 use Rattle.curve.specs.Curve.{IsToneCurve}
 use Rattle.shot.specs.Shot.{opened, withStrip, measured, withCurve, fixedWith, coloured}
 use Rattle.shot.specs.declared.Shot.{Shot}
-use Rattle.shot.proofs.Holds.{Holds, holds-opened, holds-strip, curve-of-strips, holds-curve}
-use Rattle.shot.proofs.Passed.{Measurable, measure-passed, Fixable, fix-passed}
+use Rattle.shot.proofs.Holds.{Holds, up-to-of-held, last-of-held, holds-opened, holds-strip, curve-of-strips, holds-curve}
+use Rattle.shot.proofs.Passed.{MeasuringAccepted, measure-passed, FixingAccepted, fix-passed}
 use Rattle.book.specs.Accuracy.{Represents}
 use Rattle.book.specs.Book.{Call, Call.opening, Call.measuring, Call.fixing, Call.colouring, Book, emptyBook, hasCurve, expectedAnswer, entered, bookStep}
 use Rattle.book.specs.Run.{step, WellFormed}
 
--- the shot holds the book's pixels and has its curve
-pub record Sound (x : Shot) (b : Book) : Type 0 where
+-- the shot holds the book's pixels, and is fixed exactly if the book has a curve, by that curve
+pub record HoldsBook (x : Shot) (b : Book) : Type 0 where
   pub holds : Holds x (pixelsIn (b .strips))
   pub fixed : x .fixed ≡ hasCurve (b .curve)
   pub curve : (c : List ℕ) → b .curve ≡ some c → x .curve ≡ c
 
 -- so it represents the book
-pub represents : {x : Shot} {b : Book} → Sound x b → Represents x b
-represents h = record { counts = h .holds .counts; pixels = h .holds .pixels; fixed = h .fixed; curve = h .curve }
+pub represents : {x : Shot} {b : Book} → HoldsBook x b → Represents x b
+represents h =
+    record {
+      counts = h .holds .counts;
+      pixels = h .holds .pixels;
+      upTo = up-to-of-held (h .holds);
+      last = last-of-held (h .holds);
+      limit = h .holds .limit;
+      fixed = h .fixed;
+      curve = h .curve;
+    }
 
 -- and the book's curve is a tone curve
-pub shape : {x : Shot} {b : Book} → Sound x b → (c : List ℕ) → b .curve ≡ some c → IsToneCurve c
+pub shape : {x : Shot} {b : Book} → HoldsBook x b → (c : List ℕ) → b .curve ≡ some c → IsToneCurve c
 shape h c e = subst IsToneCurve (h .curve c e) (h .holds .curve (h .fixed ∙ ap hasCurve e))
 
 -- no curve is not some curve
@@ -43,9 +51,9 @@ pub some-same : {c d : List ℕ} → some c ≡ some d → c ≡ d
 some-same e = cc
 
 -- an opened shot and an empty book
-pub sound-opened : Sound opened emptyBook
+pub holds-empty-book : HoldsBook opened emptyBook
 unfolding opened
-sound-opened = record { holds = holds-opened; fixed = refl; curve = λ c e. absurd (no-curve e) }
+holds-empty-book = record { holds = holds-opened; fixed = refl; curve = λ c e. absurd (no-curve e) }
 
 -- the program answers as the book has it
 pub answers-agree : {x : Shot} {b : Book} → Represents x b → (c : Call) → step x c .answer .number ≡ expectedAnswer b c
@@ -56,10 +64,10 @@ answers-agree r (fixing choice) = simp (r .fixed, r .pixels)
 answers-agree r (colouring q) = simp (r .fixed)
 
 -- one number decides both
-both : {x y : Shot} {b d : Book} (n m : ℕ) → n ≡ m → (n ≡ 0 → Sound y d) → Sound x b → Sound (cond (eqb n 0) y x) (cond (eqb m 0) d b)
+both : {x y : Shot} {b d : Book} (n m : ℕ) → n ≡ m → (n ≡ 0 → HoldsBook y d) → HoldsBook x b → HoldsBook (cond (eqb n 0) y x) (cond (eqb m 0) d b)
 both {x} {y} {b} {d} n m e new old = rw e (go (eqb m 0) refl)
   where
-    go : (t : Bool) → eqb m 0 ≡ t → Sound (cond t y x) (cond t d b)
+    go : (t : Bool) → eqb m 0 ≡ t → HoldsBook (cond t y x) (cond t d b)
     go true z = new (e ∙ eqb-true m 0 z)
     go false z = old
 
@@ -69,33 +77,33 @@ pixelsIn-joined [] strip = simp append-nil
 pixelsIn-joined (first ∷ strips) strip = simp (pixelsIn-joined strips strip, append-assoc)
 
 -- an accepted strip joins the counts and the book
-joined : {x : Shot} {b : Book} → Sound x b → (strip : List ℕ) → Bytes strip → Measurable (x .fixed) (x .pixels) (length strip)
-    → Sound (withStrip x strip) (entered b (measuring strip))
-joined {x} {b} h strip bytes ok = record {
+holds-joined : {x : Shot} {b : Book} → HoldsBook x b → (strip : List ℕ) → Bytes strip → MeasuringAccepted x strip
+    → HoldsBook (withStrip x strip) (entered b (measuring strip))
+holds-joined {x} {b} h strip bytes ok = record {
   holds = subst (Holds (withStrip x strip)) (sym (pixelsIn-joined (b .strips) strip)) (holds-strip (h .holds) strip bytes ok);
   fixed = h .fixed;
   curve = h .curve;
 }
 
 -- an accepted fixing gives both the same curve
-fixed-sound : {x : Shot} {b : Book} → Sound x b → (choice : ℕ) → Fixable (x .fixed) choice (x .pixels)
-    → Sound (withCurve x choice) (entered b (fixing choice))
-fixed-sound {x} {b} h choice ok = record {
+holds-fixed : {x : Shot} {b : Book} → HoldsBook x b → (choice : ℕ) → FixingAccepted x choice
+    → HoldsBook (withCurve x choice) (entered b (fixing choice))
+holds-fixed {x} {b} h choice ok = record {
   holds = holds-curve (h .holds) choice (ok .some);
   fixed = refl;
   curve = λ c e. curve-of-strips (b .strips) (h .holds) choice ∙ some-same e;
 }
 
 -- each call leaves them so
-pub sound-step : {x : Shot} {b : Book} → Sound x b → (c : Call) → WellFormed c → Sound (step x c .answer .shot) (bookStep b c)
+pub holds-after : {x : Shot} {b : Book} → HoldsBook x b → (c : Call) → WellFormed c → HoldsBook (step x c .answer .shot) (bookStep b c)
 unfolding measured fixedWith coloured
-sound-step h opening ok = sound-opened
-sound-step {x} {b} h (measuring strip) bytes =
+holds-after h opening ok = holds-empty-book
+holds-after {x} {b} h (measuring strip) bytes =
     both _ _ (answers-agree (represents h) (measuring strip))
-    (λ e. joined h strip bytes (measure-passed (x .fixed) (x .pixels) (length strip) e))
+    (λ e. holds-joined h strip bytes (measure-passed x strip e))
     h
-sound-step {x} {b} h (fixing choice) ok =
+holds-after {x} {b} h (fixing choice) ok =
     both _ _ (answers-agree (represents h) (fixing choice))
-    (λ e. fixed-sound h choice (fix-passed (x .fixed) choice (x .pixels) e))
+    (λ e. holds-fixed h choice (fix-passed x choice e))
     h
-sound-step {x} {b} h (colouring q) ok = subst (Sound x) (sym (cond-same (eqb (expectedAnswer b (colouring q)) 0) b)) h
+holds-after {x} {b} h (colouring q) ok = subst (HoldsBook x) (sym (cond-same (eqb (expectedAnswer b (colouring q)) 0) b)) h

@@ -1,8 +1,8 @@
--- `frames::pixel_of_each_sum` is safe, and its loop ends.
+-- `frames::pixel_of_each_intensity` is safe, and its loop ends.
 use Prim.Native.Nat.{_-_, _≤_}
 use borrow.Author.Needs.{needs}
-use Rattle.frames.proofs.pixel_of_each_sum.Statement.{statement}
-use Rattle.frames.proofs.pixel_of_each_sum.Tie as tie
+use Rattle.frames.proofs.pixel_of_each_intensity.Statement.{statement}
+use Rattle.frames.proofs.pixel_of_each_intensity.Tie as tie
 
 abbrev Inv-loop : tie.InvT-loop
 Inv-loop strip₀ s₀ strip s = s ≤ 766
@@ -13,8 +13,8 @@ abbrev μ-loop : tie.MeasureT-loop
 loop-holds : tie.Need-loop-holds Inv-loop μ-loop
 loop-holds c = search needs
 
-pixel-of-sum-requires : tie.Need-pixel-of-sum-requires Inv-loop μ-loop
-pixel-of-sum-requires c κs = search needs
+pixel-of-intensity-requires : tie.Need-pixel-of-intensity-requires Inv-loop μ-loop
+pixel-of-intensity-requires c κs = search needs
 
 mul-strip : tie.Need-mul-strip Inv-loop μ-loop
 mul-strip c = search needs
@@ -52,14 +52,14 @@ loop-again c = search needs
 returns : tie.Need-returns Inv-loop μ-loop
 returns c = search needs
 
-pub pixel-of-each-sum-spec : {M : Type 1} → statement M
-pixel-of-each-sum-spec =
+pub pixel-of-each-intensity-spec : {M : Type 1} → statement M
+pixel-of-each-intensity-spec =
     tie.close
     (tie.spec
     Inv-loop
     μ-loop
     loop-holds
-    pixel-of-sum-requires
+    pixel-of-intensity-requires
     mul-strip
     array-write-strip
     mul-strip-2

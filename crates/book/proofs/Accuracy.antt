@@ -12,7 +12,7 @@ use Rattle.colouring.proofs.Written.{Carried, written-in, colouring-accurate, c
 use Rattle.shot.specs.Reachable.{Reachable, Reachable.byOpening, Reachable.byMeasuring, Reachable.byFixing}
 use Rattle.shot.specs.Shot.{Outcome, coloured}
 use Rattle.shot.specs.declared.Shot.{Shot}
-use Rattle.book.specs.Accuracy.{entries, colouringOf, colouringIn, written, StepAccurate, CallsAreAccurate}
+use Rattle.book.specs.Accuracy.{entries, colouringOf, colouringIn, written, StepAccurate, CallsRoundThePaper, CallsAreAccurate}
 use Rattle.book.specs.Book.{Call, Call.opening, Call.measuring, Call.fixing, Call.colouring, Book}
 use Rattle.book.specs.Run.{step, Step, number, traceFrom, trace, Occurs, WellFormed}
 use Rattle.book.proofs.Colourings.{curve-of-call, carried}
@@ -156,3 +156,6 @@ accuracy calls ok =
           mv
           mw;
     }
+
+pub calls-round-the-paper : CallsRoundThePaper
+calls-round-the-paper calls ok before t o = accuracy calls ok .steps before t o .colouring .rounded

@@ -23,7 +23,7 @@ use Rattle.pixel.proofs.Paper.{moves-round-the-paper}
 use Rattle.pixel.proofs.Strips.{pixel-in-range, intensity-in-range}
 use Rattle.curve.specs.Curve.{IsToneCurve}
 use Rattle.colouring.specs.Colouring.{colouredStrip}
-use Rattle.colouring.specs.Written.{Written, WrittenAccurate, WrittenExact, WrittenRounded, pixelsWritten, writtenBy, Colouring, ColouringAccurate, AtMostTwoBelow, colouredPixels, ColouredPixelsAreExact, ColouredPixelsAreAccurate, OneCurveKeepsOrder}
+use Rattle.colouring.specs.Written.{Written, WrittenAccurate, WrittenExact, WrittenRounded, pixelsWritten, writtenBy, Colouring, ColouringAccurate, AtMostTwoBelow, colouredPixels, ColouredPixelsAreExact, ColouredPixelsAreRounded, ColouredPixelsAreAccurate, OneCurveKeepsOrder}
 use Rattle.colouring.proofs.EachPixel.{each-pixel-at, each-pixel-length}
 
 -- a coloured strip is as long as its source
@@ -84,6 +84,9 @@ by-curve method curve source tone bytes w m =
       entry = refl;
       range = small;
     })
+
+pub coloured-pixels-are-rounded : ColouredPixelsAreRounded
+coloured-pixels-are-rounded method curve source tone bytes w m = by-curve method curve source tone bytes w m .rounded
 
 pub coloured-pixels-are-accurate : ColouredPixelsAreAccurate
 coloured-pixels-are-accurate method curve source tone bytes w m = by-curve method curve source tone bytes w m .rules

@@ -57,6 +57,13 @@ abbrev pub ColouredPixelsAreExact : Type 0
 ColouredPixelsAreExact =
     (method : Method) (curve source : List ℕ) (w : Written) → w among colouredPixels method curve source → WrittenExact w
 
+-- Claim: each sample of every pixel written by a tone curve is the paper's, rounded once. Proved: proofs/Written.antt,
+-- `coloured-pixels-are-rounded`.
+abbrev pub ColouredPixelsAreRounded : Type 0
+ColouredPixelsAreRounded =
+    (method : Method) (curve source : List ℕ) → IsToneCurve curve → Bytes source
+    → (w : Written) → w among colouredPixels method curve source → WrittenRounded w
+
 -- Claim: every pixel written by a tone curve keeps the rules. Proved: proofs/Written.antt, `coloured-pixels-are-accurate`.
 abbrev pub ColouredPixelsAreAccurate : Type 0
 ColouredPixelsAreAccurate =

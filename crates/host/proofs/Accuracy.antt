@@ -6,7 +6,7 @@ use lib.ListN.{length}
 use Rattle.refusal.proofs.Laws.{refused-leaves, either-leaves}
 use Rattle.pixel.specs.Strip.{Bytes}
 use Rattle.colouring.proofs.Written.{Carried, colouring-accurate, colourings-keep-order}
-use Rattle.host.specs.Accuracy.{CurveAccurate, colouringOf, HostAccurate}
+use Rattle.host.specs.Accuracy.{CurveAccurate, colouringOf, HostRoundsThePaper, HostAccurate}
 use Rattle.host.specs.Host.{CurveCall, curveOutcome, ColourCall, colourOutcome}
 use Rattle.host.proofs.Agreement.{made-size, written-shape}
 use Rattle.host.proofs.Passed.{curve-passed, colour-passed}
@@ -41,3 +41,6 @@ host-accurate = record {
   colourings = λ c bytes. colouring-accurate (colouringOf c) (carried c bytes);
   order = λ c d bc bd same. colourings-keep-order (colouringOf c) (colouringOf d) (carried c bc) (carried d bd) same;
 }
+
+pub host-rounds-the-paper : HostRoundsThePaper
+host-rounds-the-paper c bytes = host-accurate .colourings c bytes .rounded

@@ -45,7 +45,7 @@ sumOfFirst counts (suc n) = sumOfFirst counts n + at counts n
 abbrev pub cumulative : List ℕ → ℕ → ℕ
 cumulative counts s = sumOfFirst counts (suc s)
 
--- Claim: where each count is that of the pixels, both are one. Proved: proofs/Cumulative.antt, `tallies-give-h`.
+-- Claim: where each count is that of the pixels, both are the same H. Proved: proofs/Cumulative.antt, `tallies-give-h`.
 abbrev pub TalliesGiveH : Type 0
 TalliesGiveH =
     (counts : List ℕ) (ps : List Pixel) → ((s : ℕ) → s ≤ 765 → at counts s ≡ countOf ps s)
@@ -64,6 +64,6 @@ pub record IsCumulative (N : ℕ) (H : ℕ → ℕ) : Type 0 where
 abbrev pub Counted : List Pixel → Type 0
 Counted ps = (p : Pixel) → p among ps → intensity p ≤ 765
 
--- Claim: H of such pixels is that. Proved: proofs/Cumulative.antt, `h-is-cumulative`.
+-- Claim: the H of such pixels is a cumulative histogram of as many. Proved: proofs/Cumulative.antt, `h-is-cumulative`.
 abbrev pub HIsCumulative : Type 0
 HIsCumulative = (ps : List Pixel) → Counted ps → IsCumulative (length ps) (countUpTo ps)

@@ -8,7 +8,7 @@ use borrow.Author.Tests.{eqb-false, ltb-false}
 use lib.Dec.{eqb, ltb}
 use lib.ListN.{length, take, length-take}
 use Rattle.tables.specs.Table.{at}
-use Rattle.netpbm.specs.Header.{headerLimit, areaLimit, isSpace, fieldAt, afterNumber, judged, hasLetters, headerIn, Fitting, AcceptedHeadersFit}
+use Rattle.netpbm.specs.Header.{headerLimit, areaLimit, isSpace, fieldAt, afterNumber, judged, hasLetters, headerIn, HeaderFits, AcceptedHeadersFit}
 use Rattle.netpbm.specs.declared.Field.{Field}
 use Rattle.netpbm.specs.declared.Field.the-variants.{Number, NoNumber}
 use Rattle.netpbm.specs.declared.Reading.{Reading}
@@ -17,7 +17,7 @@ use Rattle.netpbm.proofs.Bytes.{space-within}
 
 -- a reading fits a file if its header, where it has one, does
 abbrev Fits : ℕ → Reading → Type 0
-Fits file (Accepted header) = Fitting header file
+Fits file (Accepted header) = HeaderFits header file
 Fits file Malformed = Unit {0}
 Fits file OtherLargest = Unit {0}
 Fits file OtherSize = Unit {0}

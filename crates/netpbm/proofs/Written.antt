@@ -20,7 +20,7 @@ factor-at-most : (m n : ℕ) → 0 < m * n → m ≤ m * n
 factor-at-most m zero some = absurd (omega arith)
 factor-at-most m (suc n) some = omega arith
 
--- A picture of legal size.
+-- A picture of accepted size.
 module _ (width height : ℕ) (some : 0 < width * height) (most : width * height ≤ areaLimit) where
   -- its sides have at most five digits
   pub width-fits : width < 10 ^ 5

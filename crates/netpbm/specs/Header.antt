@@ -96,14 +96,14 @@ headerText width height =
 abbrev pub writtenLimit : ℕ
 writtenLimit = 19
 
--- Claim: so it has, for every legal size. Proved: proofs/Written.antt, `written-headers-fit`.
+-- Claim: for every width times height of 1 to 16,384 it has at most that many. Proved: proofs/Written.antt, `written-headers-fit`.
 abbrev pub WrittenHeadersFit : Type 0
 WrittenHeadersFit =
     (width height : ℕ) → 0 < width * height → width * height ≤ areaLimit → length (headerText width height) ≤ writtenLimit
 
 -- What an accepted header keeps, in a file of this size: its samples start within the file and no later than a header may end, and
 -- "width times height is 1 to 16,384".
-pub record Fitting (header : Header) (size : ℕ) : Type 0 where
+pub record HeaderFits (header : Header) (size : ℕ) : Type 0 where
   pub starts : header .start ≤ size
   pub short : header .start ≤ headerLimit
   pub some : 0 < header .width * header .height
@@ -111,4 +111,4 @@ pub record Fitting (header : Header) (size : ℕ) : Type 0 where
 
 -- Claim: every accepted header keeps it. Proved: proofs/Accepted.antt, `accepted-headers-fit`.
 abbrev pub AcceptedHeadersFit : Type 0
-AcceptedHeadersFit = (file : List ℕ) (header : Header) → headerOf file ≡ Accepted header → Fitting header (length file)
+AcceptedHeadersFit = (file : List ℕ) (header : Header) → headerOf file ≡ Accepted header → HeaderFits header (length file)

@@ -40,6 +40,7 @@ yangLeeLine s f =
     -- s above 510: up from s − 510 by f / (2 × t) for f at most 510, down from 255 by (765 − f) / t for f above 510
     (cond (leb f 510) (upFrom (s - 510) f (2 * t)) (downFrom 255 (765 - f) t)))
 
+-- The line of the pixels of intensity s, neither black nor white, that are moved to f.
 abbrev pub lineOf : Method → ℕ → ℕ → Line
 lineOf NaikMurthy = naikMurthyLine
 lineOf YangLee = yangLeeLine
@@ -52,6 +53,7 @@ distanceBy Down start c = start - c
 abbrev pub distance : Line → ℕ → ℕ
 distance line c = distanceBy (line .direction) (line .start) c
 
+-- n / d.
 abbrev pub fraction : Line → Fraction
 fraction line = line .numerator over line .denominator
 
@@ -59,7 +61,7 @@ fraction line = line .numerator over line .denominator
 abbrev pub multiple : Line → ℕ → Fraction
 multiple line c = (distance line c * line .numerator) over line .denominator
 
--- The sample n, counted up from black or down from white.
+-- The sample that is n steps up from black, or down from white.
 abbrev pub counted : Direction → ℕ → ℕ
 counted Up n = n
 counted Down n = 255 - n
@@ -76,7 +78,7 @@ MovesFollowLines = (m : Method) (s f c : ℕ) → MovingSample s f c → movedSa
 abbrev pub FactorsAreFractions : Type 0
 FactorsAreFractions = (m : Method) (s f : ℕ) → Moving s f → factor m s f ≡ fraction (lineOf m s f)
 
--- The exact sample x, counted up from black or down from white.
+-- The exact sample that is x up from black, or down from white.
 abbrev pub exactly : Direction → Fraction → Exact
 exactly Up x = up x
 exactly Down x = down x

@@ -13,7 +13,7 @@ use Rattle.refusal.proofs.Laws.{none-applies, accepted-leaves, refused-leaves}
 use Rattle.tables.proofs.Cases.{either}
 use Rattle.text.specs.Text.{Writes}
 use Rattle.strip_curve.proofs.Laws.{StripAccepted}
-use Rattle.netpbm.specs.Header.{headerOf, numberOf, valuesOf, headerText, Fitting}
+use Rattle.netpbm.specs.Header.{headerOf, numberOf, valuesOf, headerText, HeaderFits}
 use Rattle.netpbm.specs.declared.Header.{Header}
 use Rattle.netpbm.specs.declared.Reading.{Reading}
 use Rattle.netpbm.specs.declared.Reading.the-variants.{Accepted, Malformed, OtherLargest, OtherSize}
@@ -67,7 +67,7 @@ module _ (file : List ℕ) (accepted : IsAccepted file) where
   accepted-reads : headerOf file ≡ Accepted (fileHeader file)
   accepted-reads = accepted-is (headerOf file) (passed .0)
 
-  pub accepted-fits : Fitting (fileHeader file) (length file)
+  pub accepted-fits : HeaderFits (fileHeader file) (length file)
   accepted-fits = accepted-headers-fit file (fileHeader file) accepted-reads
 
   -- it has exactly the samples due

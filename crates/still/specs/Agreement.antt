@@ -35,7 +35,7 @@ pub record FollowsShot (file destination : List ℕ) : Type 0 where
   -- and demand 3 holds of them
   pub accurate : Accurate (callsOf (fileSamples file) destination)
 
--- Claim: that is so for every accepted file. Proved: proofs/Agreement.antt, `files-follow-shots`.
+-- Claim: every accepted file follows a shot, whatever the destination held before. Proved: proofs/Agreement.antt, `files-follow-shots`.
 abbrev pub FilesFollowShots : Type 0
 FilesFollowShots =
     (file : List ℕ) → Bytes file → IsAccepted file → (destination : List ℕ) → length destination ≡ length (fileSamples file)

@@ -21,7 +21,7 @@ pub record OneByteMore : Type 0 where
   pub accepted : IsAccepted largestFile
   pub largest : length largestFile + 1 ≡ inputLimit
 
--- Claim: so many bytes of a file are enough. Proved: proofs/Limits.antt, `first-bytes-are-enough`.
+-- Claim: the answer to that many first bytes of a file is the answer to the file. Proved: proofs/Limits.antt, `first-bytes-are-enough`.
 abbrev pub FirstBytesAreEnough : Type 0
 FirstBytesAreEnough = (file : List ℕ) → answer (take inputLimit file) ≡ answer file
 

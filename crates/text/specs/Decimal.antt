@@ -38,7 +38,8 @@ decimalWithin (suc most) n = cond (ltb n 10) ((zeroCode + n) ∷ []) (decimalWit
 unfoldable pub decimal : ℕ → List ℕ
 decimal n = decimalWithin 20 n
 
--- Claim: `decimal` is what its comment says. Proved: proofs/Decimal.antt, `decimal-means`.
+-- Claim: `decimal n` is digits, at least one. For n below 10^20 they stand for n, with no zero first unless n is 0; for n below 10^k
+-- they are at most k. Proved: proofs/Decimal.antt, `decimal-means`.
 pub record DecimalMeans : Type 0 where
   pub digits : (n : ℕ) → Digits (decimal n)
   pub some : (n : ℕ) → 0 < length (decimal n)

@@ -33,8 +33,8 @@ element-write-counts c = search needs
 returns : tie.Need-returns
 returns c =
     let start = c .before .before .before .before in
-    let sum = c .before .intensity-of .ensures in
-    one-more _ (start .pre .size) _ _ (sum .0 ∙ ap intensity (c .before .before .read-pixel .ensures)) (sum .1)
+    let found = c .before .intensity-of .ensures in
+    one-more _ (start .pre .size) _ _ (found .0 ∙ ap intensity (c .before .before .read-pixel .ensures)) (found .1)
 
 pub count-pixel-spec : {M : Type 1} → statement M
 count-pixel-spec =

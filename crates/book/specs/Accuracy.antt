@@ -85,10 +85,11 @@ colouringOf b c o =
       after = o .bytes;
     }
 
--- A step taken so, and the pixels written in it: each has the book's entry for its intensity.
+-- A step, taken so.
 abbrev pub colouringIn : Step → Colouring
 colouringIn t = colouringOf (t .book) (t .call) (t .outcome)
 
+-- The pixels written in a step, each with the book's entry for its intensity.
 abbrev pub written : Step → List Written
 written t = writtenBy (colouringIn t)
 

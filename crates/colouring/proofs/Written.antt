@@ -100,7 +100,7 @@ one-curve-keeps-order m n curve source other tone bytes bytes' v w mv mw le =
 
 -- What a colouring leaves, whatever checks gave its number: an accepted one has passed the checks of lengths, has a tone curve where there is
 -- a pixel to write, and leaves the coloured source; a refused one leaves what was there.
-pub record Carried (c : Colouring) : Type 0 where
+pub record Performed (c : Colouring) : Type 0 where
   pub left : c .after ≡ ifAccepted (c .number) (colouredStrip (c .method) (c .curve) (c .source)) (c .before)
   pub whole : c .number ≡ 0 → isWhole (length (c .source)) ≡ true
   pub same : c .number ≡ 0 → length (c .before) ≡ length (c .source)
@@ -113,7 +113,7 @@ pub record WrittenIn (c : Colouring) (w : Written) : Type 0 where
   pub some : 0 < length (c .source)
   pub member : w among colouredPixels (c .method) (c .curve) (c .source)
 
-module _ (c : Colouring) (h : Carried c) where
+module _ (c : Colouring) (h : Performed c) where
   -- the source, coloured
   abbrev made : List ℕ
   made = colouredStrip (c .method) (c .curve) (c .source)
@@ -149,7 +149,7 @@ module _ (c : Colouring) (h : Carried c) where
       }
 
 -- the order of two pixels that were written in colourings by one curve
-pub colourings-keep-order : (c d : Colouring) → Carried c → Carried d → c .curve ≡ d .curve
+pub colourings-keep-order : (c d : Colouring) → Performed c → Performed d → c .curve ≡ d .curve
     → (v w : Written) → v among writtenBy c → w among writtenBy d → AtMostTwoBelow v w
 colourings-keep-order c d h k same v w mv mw =
     let first = written-in c h v mv in

@@ -2,7 +2,7 @@
 use mathlib.Core.Path.{_≡_, refl, sym, ap, subst, _∙_}
 use mathlib.Core.Bool.{true}
 use mathlib.Core.List.{List, [], _∷_, append-nil}
-use Prim.Native.Nat.{ℕ, _+_, _/_, _^_, _≤_, _<_}
+use Prim.Native.Nat.{ℕ, _/_, _≤_, _<_}
 use native.Mathlib.Omega.{arith}
 use borrow.Author.Tests.{not-false, ltb-false, eqb-false, le-ltb, eq-eqb, ne-eqb}
 use lib.Dec.{ltb, eqb}
@@ -15,7 +15,7 @@ use Rattle.pixel.proofs.Strips.{whole-means, length-pixels, pixels-in-range, in
 use Rattle.measuring.specs.Histogram.{pixelLimit, pixelsIn, countOf, withPixels, cumulative, Counted}
 use Rattle.measuring.specs.Inner.{CountsFit}
 use Rattle.measuring.proofs.Counting.{with-at}
-use Rattle.curve.specs.Choices.{choiceNumber, choiceOf}
+use Rattle.curve.specs.Choices.{choiceNumber}
 use Rattle.curve.specs.Curve.{toneCurve, curveOf, IsToneCurve}
 use Rattle.curve.specs.Inner.{HistogramOf}
 use Rattle.curve.specs.declared.Choice.{Choice}
@@ -25,7 +25,7 @@ use Rattle.curve.proofs.Strips.{curve-of-tally, curve-of-shape}
 use Rattle.strip_curve.specs.OneStrip.{stripChecks, stripNumber, stripCurve}
 use Rattle.strip_curve.specs.declared.StripCurve.{StripCurve}
 
--- what is handed back, from the number that the checks gave
+-- What is handed back, from the number that the checks gave.
 module _ (choice : Choice) (strip : List ℕ) (n : ℕ) (is : n ≡ stripNumber strip) where
   pub made-refused : (n ≡ 0 → ⊥) → record { number = n; curve = replicate 766 0 } ≡ stripCurve choice strip
   unfolding stripCurve
@@ -36,7 +36,7 @@ module _ (choice : Choice) (strip : List ℕ) (n : ℕ) (is : n ≡ stripNumber 
   unfolding stripCurve
   made-accepted curve zero same = rw (eq-eqb (stripNumber strip) 0 (sym is ∙ zero), is, same)
 
--- for callers: what was handed back
+-- For callers: what was handed back.
 module _ (choice : Choice) (strip : List ℕ) {made : StripCurve} (is : made ≡ stripCurve choice strip) where
   pub made-number : made .number ≡ stripNumber strip
   unfolding stripCurve
@@ -54,9 +54,9 @@ pub record StripAccepted (strip : ℕ) : Type 0 where
 
 pub strip-passed : (strip : List ℕ) → stripNumber strip ≡ 0 → StripAccepted (length strip)
 strip-passed strip e =
-    let length-of = length strip in
-    let (whole, (some, (limit, _))) = none-applies (stripChecks (isWhole length-of) (eqb length-of 0) (ltb pixelLimit (length-of / 3))) refl e in
-    record { whole = not-false _ whole; some = omega (arith, eqb-false (length strip) 0 some); limit = ltb-false _ _ limit }
+    let size = length strip in
+    let (whole, (some, (limit, _))) = none-applies (stripChecks (isWhole size) (eqb size 0) (ltb pixelLimit (size / 3))) refl e in
+    record { whole = not-false _ whole; some = omega (arith, eqb-false size 0 some); limit = ltb-false _ _ limit }
 
 pub strip-accepted : (strip : List ℕ) → StripAccepted (length strip) → stripNumber strip ≡ 0
 strip-accepted strip ok =
@@ -66,12 +66,13 @@ strip-accepted strip ok =
       le-ltb pixelLimit (length strip / 3) (ok .limit),
     ) refl
 
+-- An accepted strip.
 module _ (strip : List ℕ) (ok : StripAccepted (length strip)) where
-  -- its pixels are those of the strips, this one alone
+  -- the pixels of this one strip
   only : pixelsIn (strip ∷ []) ≡ pixelsOf strip
   only = append-nil (pixelsOf strip)
 
-  pub pixels-are : length strip / 3 ≡ length (pixelsIn (strip ∷ []))
+  pixels-are : length strip / 3 ≡ length (pixelsIn (strip ∷ []))
   pixels-are = sym (ap length only ∙ length-pixels strip)
 
   some-pixels : 0 < length (pixelsIn (strip ∷ []))

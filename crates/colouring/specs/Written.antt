@@ -74,11 +74,11 @@ ColouredPixelsAreAccurate =
 abbrev pub AtMostBelow : ℕ → Written → Written → Type 0
 AtMostBelow n v w = intensity (v .input) ≤ intensity (w .input) → intensity (v .output) ≤ intensity (w .output) + n
 
--- The mission's n.
+-- Demand 3's: at most two below.
 abbrev pub AtMostTwoBelow : Written → Written → Type 0
 AtMostTwoBelow = AtMostBelow 2
 
--- Claim: that holds of any two pixels written by one tone curve, in whichever colourings and by whichever methods.
+-- Claim: any two pixels written by one tone curve keep that order, in whichever colourings and by whichever methods.
 -- Proved: proofs/Written.antt, `one-curve-keeps-order`.
 abbrev pub OneCurveKeepsOrder : Type 0
 OneCurveKeepsOrder =

@@ -8,14 +8,14 @@ use native.Mathlib.Omega.{arith}
 use lib.ListN.{length}
 use Rattle.tables.specs.Table.{_among_}
 use Rattle.colouring.specs.Written.{Written}
-use Rattle.colouring.proofs.Written.{Carried, written-in, colouring-accurate, colourings-keep-order}
+use Rattle.colouring.proofs.Written.{Performed, written-in, colouring-accurate, colourings-keep-order}
 use Rattle.shot.specs.Reachable.{Reachable, Reachable.byOpening, Reachable.byMeasuring, Reachable.byFixing}
 use Rattle.shot.specs.Shot.{Outcome, coloured}
 use Rattle.shot.specs.declared.Shot.{Shot}
-use Rattle.book.specs.Accuracy.{entries, colouringOf, colouringIn, written, StepAccurate, CallsAreAccurate}
+use Rattle.book.specs.Accuracy.{entries, colouringOf, colouringIn, written, StepAccurate, CallsRoundThePaper, CallsAreAccurate}
 use Rattle.book.specs.Book.{Call, Call.opening, Call.measuring, Call.fixing, Call.colouring, Book}
 use Rattle.book.specs.Run.{step, Step, number, traceFrom, trace, Occurs, WellFormed}
-use Rattle.book.proofs.Colourings.{curve-of-call, carried}
+use Rattle.book.proofs.Colourings.{curve-of-call, performed}
 use Rattle.book.proofs.Represents.{HoldsBook, represents, shape, some-same, holds-empty-book, answers-agree, holds-after}
 use Rattle.book.proofs.Steps.{BookAfter, after-none, after-more}
 
@@ -83,22 +83,22 @@ in-order (v ∷ before) (v' ∷ before') t u o o' =
     (record { after = o' .after; split = cons-tail (sym (o .split) ∙ o' .split) }))
 
 -- what a step leaves, taken as a colouring
-step-carried : (before : List Step) (t : Step) → StepFacts before t → Carried (colouringIn t)
-step-carried before t g =
-    subst (λ (o : Outcome). Carried (colouringOf (t .book) (t .call) o)) (sym (g .did)) (carried (g .holds) (t .call) (g .brings))
+step-performed : {before : List Step} {t : Step} → StepFacts before t → Performed (colouringIn t)
+step-performed {before} {t} g =
+    subst (λ (o : Outcome). Performed (colouringOf (t .book) (t .call) o)) (sym (g .did)) (performed (g .holds) (t .call) (g .brings))
 
 -- a step that wrote a pixel has a curve
-step-curve : (before : List Step) (t : Step) → StepFacts before t → (w : Written) → w among written t
+step-curve : {before : List Step} {t : Step} → StepFacts before t → (w : Written) → w among written t
     → (curve : List ℕ) × (t .book .curve ≡ some curve)
-step-curve before t g w m =
-    let is = written-in (colouringIn t) (step-carried before t g) w m in
+step-curve {before} {t} g w m =
+    let is = written-in (colouringIn t) (step-performed g) w m in
     curve-of-call (g .holds) (t .call) (sym (ap (λ (o : Outcome). o .answer .number) (g .did)) ∙ is .accepted) (is .some)
 
 -- steps of one shot that both have a curve have the same one
-one-curve : (before before' : List Step) (t u : Step) → StepFacts before t → StepFacts before' u → t .openings ≡ u .openings
+one-curve : {before before' : List Step} {t u : Step} → StepFacts before t → StepFacts before' u → t .openings ≡ u .openings
     → (t ≡ u) ⊎ ((t among before') ⊎ (u among before))
     → (c d : List ℕ) → t .book .curve ≡ some c → u .book .curve ≡ some d → c ≡ d
-one-curve before before' t u g h same order c d ec ed =
+one-curve {before} {before'} {t} {u} g h same order c d ec ed =
     ⊎-elim (λ (e : t ≡ u). some-same (sym ec ∙ ap (λ (s : Step). s .book .curve) e ∙ ed))
     (λ (k : (t among before') ⊎ (u among before)).
     ⊎-elim (λ (m : t among before'). some-same (sym (h .after .kept t m same c ec) ∙ ed))
@@ -107,17 +107,17 @@ one-curve before before' t u g h same order c d ec ed =
     order
 
 -- so two steps of one shot that wrote pixels wrote them by the same curve
-same-entries : (before before' : List Step) (t u : Step) → StepFacts before t → StepFacts before' u → t .openings ≡ u .openings
+same-entries : {before before' : List Step} {t u : Step} → StepFacts before t → StepFacts before' u → t .openings ≡ u .openings
     → (t ≡ u) ⊎ ((t among before') ⊎ (u among before))
     → (v w : Written) → v among written t → w among written u → entries (t .book .curve) ≡ entries (u .book .curve)
-same-entries before before' t u g h same order v w mv mw =
-    let (c, ec) = step-curve before t g v mv in
-    let (d, ed) = step-curve before' u h w mw in
-    ap entries ec ∙ one-curve before before' t u g h same order c d ec ed ∙ sym (ap entries ed)
+same-entries g h same order v w mv mw =
+    let (c, ec) = step-curve g v mv in
+    let (d, ed) = step-curve h w mw in
+    ap entries ec ∙ one-curve g h same order c d ec ed ∙ sym (ap entries ed)
 
 -- what follows for each step
-step-accurate : (before : List Step) (t : Step) → StepFacts before t → StepAccurate before t
-step-accurate before t g =
+step-accurate : {before : List Step} {t : Step} → StepFacts before t → StepAccurate before t
+step-accurate {before} {t} g =
     record {
       premise = g .reachable;
       represents = represents (g .holds);
@@ -125,7 +125,7 @@ step-accurate before t g =
       answer = answered ∙ answers-agree (represents (g .holds)) (t .call);
       curve = g .after .fixed;
       shape = shape (g .holds);
-      colouring = colouring-accurate (colouringIn t) (step-carried before t g);
+      colouring = colouring-accurate (colouringIn t) (step-performed g);
     }
   where
     answered : number t ≡ step (t .shot) (t .call) .answer .number
@@ -144,15 +144,18 @@ step-brings calls ok before t o = step-facts calls ok before t o .brings
 pub accuracy : CallsAreAccurate
 accuracy calls ok =
     record {
-      steps = λ before t o. step-accurate before t (step-facts calls ok before t o);
+      steps = λ before t o. step-accurate (step-facts calls ok before t o);
       order =
           λ before before' t u o o' same v w mv mw.
           let g = step-facts calls ok before t o in
           let h = step-facts calls ok before' u o' in
-          colourings-keep-order (colouringIn t) (colouringIn u) (step-carried before t g) (step-carried before' u h)
-          (same-entries before before' t u g h same (in-order before before' t u o o') v w mv mw)
+          colourings-keep-order (colouringIn t) (colouringIn u) (step-performed g) (step-performed h)
+          (same-entries g h same (in-order before before' t u o o') v w mv mw)
           v
           w
           mv
           mw;
     }
+
+pub calls-round-the-paper : CallsRoundThePaper
+calls-round-the-paper calls ok before t o = accuracy calls ok .steps before t o .colouring .rounded

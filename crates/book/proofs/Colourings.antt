@@ -13,7 +13,7 @@ use Rattle.tables.proofs.Cases.{cond-same}
 use Rattle.pixel.specs.Methods.{methodOf}
 use Rattle.curve.specs.Curve.{IsToneCurve}
 use Rattle.colouring.specs.Colouring.{colouredStrip}
-use Rattle.colouring.proofs.Written.{Carried}
+use Rattle.colouring.proofs.Written.{Performed}
 use Rattle.shot.specs.Shot.{ColourRequest, coloured}
 use Rattle.shot.specs.declared.Answer.{Answer}
 use Rattle.shot.specs.declared.Shot.{Shot}
@@ -57,7 +57,7 @@ module _ {x : Shot} {b : Book} (h : HoldsBook x b) where
       subst IsToneCurve (sym (ap entries is)) (shape h curve is)
 
   -- a call that asks for no pixel
-  none-asked : (answer : Answer) → Carried (colouringOf b opening (record { answer = answer; bytes = [] }))
+  none-asked : (answer : Answer) → Performed (colouringOf b opening (record { answer = answer; bytes = [] }))
   unfolding colouredStrip
   none-asked answer = record {
     left = sym (cond-same (eqb (answer .number) 0) []);
@@ -68,12 +68,12 @@ module _ {x : Shot} {b : Book} (h : HoldsBook x b) where
   }
 
   -- what each call leaves is the source, coloured by the book's curve, or what was there
-  pub carried : (c : Call) → WellFormed c → Carried (colouringOf b c (step x c))
+  pub performed : (c : Call) → WellFormed c → Performed (colouringOf b c (step x c))
   unfolding coloured
-  carried opening ok = none-asked (step x opening .answer)
-  carried (measuring strip) ok = none-asked (step x (measuring strip) .answer)
-  carried (fixing choice) ok = none-asked (step x (fixing choice) .answer)
-  carried (colouring q) ok = record {
+  performed opening ok = none-asked (step x opening .answer)
+  performed (measuring strip) ok = none-asked (step x (measuring strip) .answer)
+  performed (fixing choice) ok = none-asked (step x (fixing choice) .answer)
+  performed (colouring q) ok = record {
     left =
         same-left (coloured x q .answer .number) _ _ (q .destination)
         (λ e.

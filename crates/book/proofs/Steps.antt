@@ -86,7 +86,9 @@ measured-none n (t ∷ ts) less =
 
 -- b is the book after these steps, n of which are openings
 pub record BookAfter (n : ℕ) (b : Book) (steps : List Step) : Type 0 where
+  -- none of them has more openings before it
   pub openings : (u : Step) → u among steps → u .openings ≤ n
+  -- the book's strips are those that they measured, and its curve is one that they made
   pub strips : b .strips ≡ stripsMeasured n steps
   pub fixed : (curve : List ℕ) → b .curve ≡ some curve → FixedBy n steps curve
   -- a curve of the same shot is still the book's
@@ -167,7 +169,7 @@ module _ {n : ℕ} {b : Book} {steps : List Step} (h : BookAfter n b steps) (s :
           made = f .made ∙ ap (curveOf (f .choice)) (sym (h .strips) ∙ sym (ap (λ (d : Book). d .strips) unchanged) ∙ strips-more);
         }
 
-    -- so the same holds before the next call
+    -- what the book holds after the call
     after-others : BookAfter n next more
     after-others = record {
       openings = one-more (λ (u : Step). u .openings ≤ n) (h .openings) (omega arith);

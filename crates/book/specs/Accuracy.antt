@@ -11,7 +11,7 @@ use Rattle.tables.specs.Table.{at, _among_}
 use Rattle.pixel.specs.Methods.{methodOf}
 use Rattle.curve.specs.Curve.{curveOf, IsToneCurve}
 use Rattle.measuring.specs.Histogram.{pixelLimit, pixelsIn, countOf, countUpTo, cumulative}
-use Rattle.colouring.specs.Written.{Written, Colouring, writtenBy, ColouringAccurate, AtMostTwoBelow}
+use Rattle.colouring.specs.Written.{Written, WrittenRounded, Colouring, writtenBy, ColouringAccurate, AtMostTwoBelow}
 use Rattle.shot.specs.Reachable.{Reachable}
 use Rattle.shot.specs.Shot.{ColourRequest, Outcome}
 use Rattle.shot.specs.declared.Shot.{Shot}
@@ -85,10 +85,11 @@ colouringOf b c o =
       after = o .bytes;
     }
 
--- A step taken so, and the pixels written in it: each has the book's entry for its intensity.
+-- A step, taken so.
 abbrev pub colouringIn : Step → Colouring
 colouringIn t = colouringOf (t .book) (t .call) (t .outcome)
 
+-- The pixels written in a step, each with the book's entry for its intensity.
 abbrev pub written : Step → List Written
 written t = writtenBy (colouringIn t)
 
@@ -117,6 +118,13 @@ pub record Accurate (calls : List Call) : Type 0 where
   -- a sum at most two below the other's"
   pub order : (before before' : List Step) (t u : Step) → Occurs (trace calls) before t → Occurs (trace calls) before' u
       → t .openings ≡ u .openings → (v w : Written) → v among written t → w among written u → AtMostTwoBelow v w
+
+-- Claim: demand 2 for every pixel written in a list of calls: each sample is the exact value of the paper's formula, rounded once. Proved:
+-- proofs/Accuracy.antt, `calls-round-the-paper`.
+abbrev pub CallsRoundThePaper : Type 0
+CallsRoundThePaper =
+    (calls : List Call) → ((c : Call) → c among calls → WellFormed c)
+    → (before : List Step) (t : Step) → Occurs (trace calls) before t → (w : Written) → w among written t → WrittenRounded w
 
 -- Claim: demand 3. Proved: proofs/Accuracy.antt, `accuracy`.
 abbrev pub CallsAreAccurate : Type 0

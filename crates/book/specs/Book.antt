@@ -1,12 +1,12 @@
 -- Document 01's book ("The book and the whole run"): fed each call with its arguments other than the shot, and nothing that the
 -- program keeps or answers.
-use mathlib.Core.Bool.{Bool, true, false, cond, not}
+use mathlib.Core.Bool.{Bool, true, false, not}
 use mathlib.Core.List.{List, [], _∷_, _++_}
 use mathlib.Core.Option.{Option, none, some}
 use Prim.Native.Nat.{ℕ, _+_}
 use lib.Dec.{ltb, eqb}
 use lib.ListN.{length}
-use Rattle.refusal.specs.Refusal.{Check, _refuses_, firstOf}
+use Rattle.refusal.specs.Refusal.{Check, _refuses_, firstOf, ifAccepted}
 use Rattle.pixel.specs.Methods.{isMethod}
 use Rattle.pixel.specs.Strip.{isWhole, pixelsOf}
 use Rattle.measuring.specs.Histogram.{pixelLimit, pixelsIn}
@@ -72,4 +72,4 @@ entered b (colouring q) = b
 
 -- "A refused call leaves the book as it is."
 abbrev pub bookStep : Book → Call → Book
-bookStep b c = cond (eqb (expectedAnswer b c) 0) (entered b c) b
+bookStep b c = ifAccepted (expectedAnswer b c) (entered b c) b

@@ -15,14 +15,14 @@ use Rattle.pixel.specs.declared.Pixel.{Pixel}
 use Rattle.curve.specs.Curve.{IsToneCurve}
 use Rattle.colouring.specs.Colouring.{colouredStrip}
 
--- A pixel written: the source pixel, what stands at its place in the destination, the method, and the curve's entry for its sum.
+-- A pixel written: the source pixel, what stands at its place in the destination, the method, and the curve's entry for its intensity.
 pub record Written : Type 0 where
   pub input : Pixel
   pub output : Pixel
   pub method : Method
   pub entry : ℕ
 
--- The pixel keeps the rules of demand 3. The factor is set by input sum, entry and method alone.
+-- The pixel keeps the rules of demand 3, by the factor that is "set by input sum, entry and method alone".
 abbrev pub WrittenAccurate : Written → Type 0
 WrittenAccurate w =
     PixelAccurate mission (factor (w .method) (intensity (w .input)) (w .entry)) (whole (w .entry)) (w .input) (w .output)
@@ -57,21 +57,28 @@ abbrev pub ColouredPixelsAreExact : Type 0
 ColouredPixelsAreExact =
     (method : Method) (curve source : List ℕ) (w : Written) → w among colouredPixels method curve source → WrittenExact w
 
+-- Claim: each sample of every pixel written by a tone curve is the paper's, rounded once. Proved: proofs/Written.antt,
+-- `coloured-pixels-are-rounded`.
+abbrev pub ColouredPixelsAreRounded : Type 0
+ColouredPixelsAreRounded =
+    (method : Method) (curve source : List ℕ) → IsToneCurve curve → Bytes source
+    → (w : Written) → w among colouredPixels method curve source → WrittenRounded w
+
 -- Claim: every pixel written by a tone curve keeps the rules. Proved: proofs/Written.antt, `coloured-pixels-are-accurate`.
 abbrev pub ColouredPixelsAreAccurate : Type 0
 ColouredPixelsAreAccurate =
     (method : Method) (curve source : List ℕ) → IsToneCurve curve → Bytes source
     → (w : Written) → w among colouredPixels method curve source → WrittenAccurate w
 
--- Of two pixels, the one whose input sum is no smaller has a sum at most n below the other's.
+-- Of two pixels, the one whose input intensity is no smaller has an intensity at most n below the other's.
 abbrev pub AtMostBelow : ℕ → Written → Written → Type 0
 AtMostBelow n v w = intensity (v .input) ≤ intensity (w .input) → intensity (v .output) ≤ intensity (w .output) + n
 
--- The mission's n.
+-- Demand 3's: at most two below.
 abbrev pub AtMostTwoBelow : Written → Written → Type 0
 AtMostTwoBelow = AtMostBelow 2
 
--- Claim: that holds of any two pixels written by one tone curve, in whichever colourings and by whichever methods.
+-- Claim: any two pixels written by one tone curve keep that order, in whichever colourings and by whichever methods.
 -- Proved: proofs/Written.antt, `one-curve-keeps-order`.
 abbrev pub OneCurveKeepsOrder : Type 0
 OneCurveKeepsOrder =

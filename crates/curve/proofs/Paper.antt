@@ -5,7 +5,7 @@ use native.Mathlib.Nat.{mul-assoc, mul-comm, mul-left-comm, one-mul, mul-sub, mu
 use native.Mathlib.Omega.{arith}
 use Rattle.rounding.specs.Near.{near}
 use Rattle.rounding.specs.Fraction.{Fraction, whole, _over_, _⊗_, _≼_, _≺_, nearest}
-use Rattle.targets.specs.Cube.{G, cube}
+use Rattle.targets.specs.Cube.{G, cubed}
 use Rattle.targets.specs.Paper.{area}
 use Rattle.targets.proofs.Laws.{targets-are-right}
 use Rattle.curve.specs.Curve.{shareCount, fullCount, cubeEntry, equalisedEntry, byChoice, entry}
@@ -80,18 +80,18 @@ n-times {c} {x} {v} n p =
     }
 
 -- equation 11 at the intensity k / 255, times 255³
-area-times : (k : ℕ) → k ≤ 765 → Times (cube 255) (area (k over 255)) (G k)
+area-times : (k : ℕ) → k ≤ 765 → Times (cubed 255) (area (k over 255)) (G k)
 area-times k h =
     let (positive, _, same) = targets-are-right .equation11 k h in
     record { positive = omega arith; same = omega arith }
 
 -- and at the intensity 3
-top-times : (h : ℕ) → Times (cube 255) (area (whole 3) ⊗ whole h) (G 765 * h)
+top-times : (h : ℕ) → Times (cubed 255) (area (whole 3) ⊗ whole h) (G 765 * h)
 unfolding area
 top-times h = record { positive = omega arith; same = rw (targets-are-right .at765) (omega arith) }
 
 -- equation 14, times 255³, is the distance of document 01
-equation14-times : (n h k : ℕ) → k ≤ 765 → Times (cube 255) (equation14 n h k) (distance (n * G k) (G 765 * h))
+equation14-times : (n h k : ℕ) → k ≤ 765 → Times (cubed 255) (equation14 n h k) (distance (n * G k) (G 765 * h))
 equation14-times n h k le = apart-times (n-times n (area-times k le)) (top-times h)
 
 -- between the ends the entry for s is made from N and H(s)

@@ -13,11 +13,8 @@ use Rattle.pixel.specs.Strip.{pixelsOf, pixelFrom}
 use Rattle.pixel.specs.declared.Pixel.{Pixel}
 use Rattle.pixel.proofs.Strips.{drop-pixel}
 use Rattle.measuring.specs.Histogram.{countOf}
+use Rattle.measuring.proofs.Counts.{one}
 use Rattle.frames.specs.Inner.{beforeWhite, tonesOf}
-
--- what a test counts
-abbrev pub one : Bool → ℕ
-one t = cond t 1 0
 
 one-le : (t : Bool) → one t ≤ 1
 one-le true = omega arith

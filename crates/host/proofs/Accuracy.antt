@@ -5,8 +5,8 @@ use Prim.Native.Nat.{ℕ}
 use lib.ListN.{length}
 use Rattle.refusal.proofs.Laws.{refused-leaves, either-leaves}
 use Rattle.pixel.specs.Strip.{Bytes}
-use Rattle.colouring.proofs.Written.{Carried, colouring-accurate, colourings-keep-order}
-use Rattle.host.specs.Accuracy.{CurveAccurate, colouringOf, HostAccurate}
+use Rattle.colouring.proofs.Written.{Performed, colouring-accurate, colourings-keep-order}
+use Rattle.host.specs.Accuracy.{CurveAccurate, colouringOf, HostRoundsThePaper, HostAccurate}
 use Rattle.host.specs.Host.{CurveCall, curveOutcome, ColourCall, colourOutcome}
 use Rattle.host.proofs.Agreement.{made-size, written-shape}
 use Rattle.host.proofs.Passed.{curve-passed, colour-passed}
@@ -24,9 +24,9 @@ curves c bytes = record {
 }
 
 -- what a colour call leaves
-carried : (c : ColourCall) → Bytes (c .source) → Carried (colouringOf c)
+performed : (c : ColourCall) → Bytes (c .source) → Performed (colouringOf c)
 unfolding colourOutcome
-carried c bytes = record {
+performed c bytes = record {
   left = refl;
   whole = λ e. colour-passed c e .whole;
   same = λ e. colour-passed c e .same;
@@ -38,6 +38,9 @@ pub host-accurate : HostAccurate
 host-accurate = record {
   curves = curves;
   shapes = λ c e. colour-passed c e .shape;
-  colourings = λ c bytes. colouring-accurate (colouringOf c) (carried c bytes);
-  order = λ c d bc bd same. colourings-keep-order (colouringOf c) (colouringOf d) (carried c bc) (carried d bd) same;
+  colourings = λ c bytes. colouring-accurate (colouringOf c) (performed c bytes);
+  order = λ c d bc bd same. colourings-keep-order (colouringOf c) (colouringOf d) (performed c bc) (performed d bd) same;
 }
+
+pub host-rounds-the-paper : HostRoundsThePaper
+host-rounds-the-paper c bytes = host-accurate .colourings c bytes .rounded

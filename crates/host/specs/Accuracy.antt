@@ -8,7 +8,7 @@ use Rattle.pixel.specs.Methods.{methodOf}
 use Rattle.pixel.specs.Strip.{Bytes}
 use Rattle.curve.specs.Curve.{IsToneCurve}
 use Rattle.curve_bytes.specs.CurveBytes.{curveEntries}
-use Rattle.colouring.specs.Written.{Written, AtMostTwoBelow, Colouring, writtenBy, ColouringAccurate}
+use Rattle.colouring.specs.Written.{Written, WrittenRounded, AtMostTwoBelow, Colouring, writtenBy, ColouringAccurate}
 use Rattle.host.specs.Host.{CurveCall, curveOutcome, ColourCall, colourOutcome}
 
 -- What holds of a curve call.
@@ -34,6 +34,11 @@ colouringOf c =
 -- The pixels that it writes.
 abbrev pub written : ColourCall → List Written
 written c = writtenBy (colouringOf c)
+
+-- Claim: demand 2 for every pixel that a host colouring writes: each sample is the exact value of the paper's formula, rounded once. Proved:
+-- proofs/Accuracy.antt, `host-rounds-the-paper`.
+abbrev pub HostRoundsThePaper : Type 0
+HostRoundsThePaper = (c : ColourCall) → Bytes (c .source) → (w : Written) → w among written c → WrittenRounded w
 
 -- Claim: demand 3 for the host. Strips and sources are bytes; all else that a call brings is any.
 -- Proved: proofs/Accuracy.antt, `host-accurate`.

@@ -6,13 +6,13 @@ use native.Mathlib.Nat.{le-refl, le-trans, mul-comm, mul-one, add-mul}
 use native.Mathlib.Omega.{arith}
 use Rattle.rounding.specs.Fraction.{Fraction, whole, _⊗_, Within}
 use Rattle.tables.proofs.Cases.{either}
-use Rattle.pixel.specs.Accuracy.{withinSteps, KeepsDifferences}
+use Rattle.pixel.specs.Accuracy.{WithinSteps, KeepsDifferences}
 use Rattle.pixel.specs.Move.{Channel, Channel.red, Channel.green, Channel.blue, sample}
 use Rattle.pixel.specs.declared.Pixel.{Pixel}
 use Rattle.key.specs.Hue.{greatest, least, chroma}
 
 -- a difference that is kept, where no subtraction is cut off
-module _ (w : ℕ) (k : Fraction) {x y x' y' : ℕ} (le : y ≤ x) (le' : y' ≤ x') (kept : withinSteps w k x y x' y') where
+module _ (w : ℕ) (k : Fraction) {x y x' y' : ℕ} (le : y ≤ x) (le' : y' ≤ x') (kept : WithinSteps w k x y x' y') where
   products : (n : ℕ) → (x * n ≡ (x - y) * n + y * n) × (x' * n ≡ (x' - y') * n + y' * n)
   products n =
       (ap (λ (t : ℕ). t * n) (omega arith) ∙ add-mul (x - y) y n, ap (λ (t : ℕ). t * n) (omega arith) ∙ add-mul (x' - y') y' n)

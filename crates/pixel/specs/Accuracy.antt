@@ -47,8 +47,8 @@ abbrev pub mission : Tolerance
 mission = record { steps = 1; sum = whole 1 }
 
 -- x' − y' is less than n steps above, and less than n steps below, (x − y) × k; both sides times k's denominator.
-abbrev pub withinSteps : ℕ → Fraction → ℕ → ℕ → ℕ → ℕ → Type 0
-withinSteps n k x y x' y' =
+abbrev pub WithinSteps : ℕ → Fraction → ℕ → ℕ → ℕ → ℕ → Type 0
+WithinSteps n k x y x' y' =
     (x' * k .den + y * k .num < y' * k .den + x * k .num + n * k .den)
     × (y' * k .den + x * k .num < x' * k .den + y * k .num + n * k .den)
 
@@ -59,7 +59,7 @@ pub record KeepsDifferences (n : ℕ) (k : Fraction) (p q : Pixel) : Type 0 wher
   -- of two channels the one no larger going in comes out no larger
   pub order : (a b : Channel) → sample p a ≤ sample p b → sample q a ≤ sample q b
   -- two channels differ by their input difference times the factor, give or take less than n steps
-  pub difference : (a b : Channel) → withinSteps n k (sample p a) (sample p b) (sample q a) (sample q b)
+  pub difference : (a b : Channel) → WithinSteps n k (sample p a) (sample p b) (sample q a) (sample q b)
 
 -- The rules of demand 3 for a pixel p that is written as q, by a tolerance, the factor k and the intensity that q should have.
 pub record PixelAccurate (t : Tolerance) (k target : Fraction) (p q : Pixel) : Type 0 where

@@ -102,7 +102,7 @@ fn down_from(start: u64, n: u64, d: u64) -> Line
 }
 
 // Method 1's line for pixels of intensity s that are moved to the target f.
-fn naik_murthy(s: u64, f: u64) -> Line
+fn naik_murthy_line(s: u64, f: u64) -> Line
     requires { ⌜ Moving s f ⌝ }
     ensures { λ r. ⌜ r ≡ naikMurthyLine s f ⌝ }
 {
@@ -113,7 +113,7 @@ fn naik_murthy(s: u64, f: u64) -> Line
 }
 
 // Method 2's line for dark pixels, s at most 255.
-fn yang_lee_dark(s: u64, f: u64) -> Line
+fn yang_lee_dark_line(s: u64, f: u64) -> Line
     requires { ⌜ Moving s f × (s ≤ 255) ⌝ }
     ensures { λ r. ⌜ r ≡ yangLeeLine s f ⌝ }
 {
@@ -124,7 +124,7 @@ fn yang_lee_dark(s: u64, f: u64) -> Line
 }
 
 // Method 2's line for bright pixels, s above 510.
-fn yang_lee_bright(s: u64, f: u64) -> Line
+fn yang_lee_bright_line(s: u64, f: u64) -> Line
     requires { ⌜ Moving s f × (510 < s) ⌝ }
     ensures { λ r. ⌜ r ≡ yangLeeLine s f ⌝ }
 {
@@ -136,17 +136,17 @@ fn yang_lee_bright(s: u64, f: u64) -> Line
 }
 
 // Method 2's line: the pixel's own intensity decides the case, and not the target.
-fn yang_lee(s: u64, f: u64) -> Line
+fn yang_lee_line(s: u64, f: u64) -> Line
     requires { ⌜ Moving s f ⌝ }
     ensures { λ r. ⌜ r ≡ yangLeeLine s f ⌝ }
 {
     if s <= 255 {
-        return yang_lee_dark(s, f);
+        return yang_lee_dark_line(s, f);
     }
     if s <= 510 {
-        return naik_murthy(s, f);
+        return naik_murthy_line(s, f);
     }
-    yang_lee_bright(s, f)
+    yang_lee_bright_line(s, f)
 }
 
 // The line of pixels of intensity s, neither black nor white, that are moved to the target f.
@@ -155,8 +155,8 @@ pub fn line_of(method: Method, s: u64, f: u64) -> Line
     ensures { λ r. ⌜ r ≡ lineOf method s f ⌝ }
 {
     match method {
-        Method::NaikMurthy => naik_murthy(s, f),
-        Method::YangLee => yang_lee(s, f),
+        Method::NaikMurthy => naik_murthy_line(s, f),
+        Method::YangLee => yang_lee_line(s, f),
     }
 }
 

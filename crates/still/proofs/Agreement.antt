@@ -4,10 +4,15 @@ use mathlib.Core.List.{List, [], _∷_, _++_, map, append-nil, List·Memᴰ·not
 use mathlib.Core.Logic.{⊎-elim}
 use Prim.Native.Nat.{ℕ, _-_}
 use native.Mathlib.Omega.{arith}
-use lib.ListN.{length}
-use lib.Seq.{getD-drop}
+use lib.ListN.{length, drop}
+use lib.Seq.{getD-drop, drop-append-seam}
 use Rattle.tables.specs.Table.{_among_}
+use Rattle.pixel.specs.Methods.{methodOf}
 use Rattle.pixel.specs.Strip.{Bytes}
+use Rattle.curve.specs.Curve.{curveOf}
+use Rattle.strip_curve.proofs.Laws.{strip-shape}
+use Rattle.colouring.specs.Written.{Written, WrittenRounded, pixelsWritten}
+use Rattle.colouring.proofs.Written.{coloured-pixels-are-rounded}
 use Rattle.book.specs.Book.{Call, Call.measuring, Call.fixing, Call.colouring}
 use Rattle.book.specs.Run.{trace, number, WellFormed}
 use Rattle.shot.specs.Shot.{opened, measured, fixedWith, ColourRequest, Outcome, coloured}
@@ -17,7 +22,7 @@ use Rattle.netpbm.specs.Header.{headerOf, valuesOf, headerText}
 use Rattle.netpbm.specs.declared.Header.{Header}
 use Rattle.netpbm.specs.declared.Reading.the-variants.{Accepted}
 use Rattle.netpbm.proofs.Grammar.{written-is-read}
-use Rattle.still.specs.Agreement.{callsOf, bytesLeft, FollowsShot, FilesFollowShots, AnswersAreFiles}
+use Rattle.still.specs.Agreement.{callsOf, bytesLeft, FollowsShot, FilesFollowShots, pixelsOfFile, FilesRoundThePaper, AnswersAreFiles}
 use Rattle.still.specs.Still.{fileChoice, fileMethod, balanced, picture, samplesDue, IsAccepted, fileHeader, fileSamples, answer}
 use Rattle.still.proofs.Answers.{accepted-fits, accepted-shot, accepted-answer, accepted-size, is-accepted}
 
@@ -30,10 +35,13 @@ module _ (file : List ℕ) (accepted : IsAccepted file) where
       let strip = accepted-shot file accepted in
       record { known = refl; whole = strip .whole; some = strip .some; limit = strip .limit }
 
+  -- its samples are bytes
+  samples-are-bytes : Bytes file → Bytes samples
+  samples-are-bytes bytes i = rw (getD-drop (fileHeader file .start) file i 0) (bytes _)
+
   module _ (bytes : Bytes file) (destination : List ℕ) (same : length destination ≡ length samples) where
-    -- its samples are bytes
-    sample-bytes : Bytes samples
-    sample-bytes i = rw (getD-drop (fileHeader file .start) file i 0) (bytes _)
+    abbrev sample-bytes : Bytes samples
+    sample-bytes = samples-are-bytes bytes
 
     abbrev request : ColourRequest
     request = record { method = fileMethod; source = samples; destination = destination }
@@ -96,6 +104,25 @@ module _ (file : List ℕ) (accepted : IsAccepted file) where
 
   answer-header : fileHeader (answer file) ≡ written-header
   answer-header = ap valuesOf answer-reads
+
+  -- and its samples are the file's, coloured
+  answer-samples : fileSamples (answer file) ≡ balanced samples
+  unfolding picture
+  answer-samples =
+      ap₂ drop (ap (λ (h : Header). h .start) answer-header) (accepted-answer file accepted)
+      ∙ drop-append-seam (headerText (fileHeader file .width) (fileHeader file .height)) (balanced samples)
+
+  written-rounded : Bytes file → (w : Written) → w among pixelsOfFile file → WrittenRounded w
+  unfolding balanced
+  written-rounded bytes w m =
+      let method = methodOf fileMethod in
+      let curve = curveOf fileChoice (samples ∷ []) in
+      let inside = samples-are-bytes bytes in
+      coloured-pixels-are-rounded method curve samples (strip-shape samples (accepted-shot file accepted) inside fileChoice) inside w
+      (subst (λ (bytes : List ℕ). w among pixelsWritten method curve samples bytes) answer-samples m)
+
+pub files-round-the-paper : FilesRoundThePaper
+files-round-the-paper file bytes accepted = written-rounded file accepted bytes
 
 pub files-follow-shots : FilesFollowShots
 files-follow-shots file bytes accepted destination same = follows-shot file accepted bytes destination same

@@ -4,7 +4,11 @@ use mathlib.Core.Path.{_≡_}
 use mathlib.Core.List.{List, [], _∷_, _++_, map}
 use Prim.Native.Nat.{ℕ}
 use lib.ListN.{length}
+use Rattle.tables.specs.Table.{_among_}
+use Rattle.pixel.specs.Methods.{methodOf}
 use Rattle.pixel.specs.Strip.{Bytes}
+use Rattle.curve.specs.Curve.{curveOf}
+use Rattle.colouring.specs.Written.{Written, WrittenRounded, pixelsWritten}
 use Rattle.book.specs.Accuracy.{Accurate}
 use Rattle.book.specs.Book.{Call, Call.measuring, Call.fixing, Call.colouring}
 use Rattle.book.specs.Run.{Step, trace, number}
@@ -40,6 +44,17 @@ abbrev pub FilesFollowShots : Type 0
 FilesFollowShots =
     (file : List ℕ) → Bytes file → IsAccepted file → (destination : List ℕ) → length destination ≡ length (fileSamples file)
     → FollowsShot file destination
+
+-- The pixels written for a file: those of its samples, by its own curve and method 2, read off the samples of the answer.
+abbrev pub pixelsOfFile : List ℕ → List Written
+pixelsOfFile file =
+    pixelsWritten (methodOf fileMethod) (curveOf fileChoice (fileSamples file ∷ [])) (fileSamples file) (fileSamples (answer file))
+
+-- Claim: demand 2 for every pixel written for an accepted file: each sample is the exact value of the paper's formula, rounded once. Proved:
+-- proofs/Agreement.antt, `files-round-the-paper`.
+abbrev pub FilesRoundThePaper : Type 0
+FilesRoundThePaper =
+    (file : List ℕ) → Bytes file → IsAccepted file → (w : Written) → w among pixelsOfFile file → WrittenRounded w
 
 -- Claim: what is written for an accepted file is an accepted file of the same size. Proved: proofs/Agreement.antt, `answers-are-files`.
 pub record AnswersAreFiles : Type 0 where

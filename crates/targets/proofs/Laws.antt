@@ -11,7 +11,7 @@ use lib.ListN.{length, getD}
 use Rattle.rounding.specs.Fraction.{Fraction, whole, _over_, _⊗_, _≼ᵇ_, _≈_}
 use Rattle.tables.specs.Table.{tabulate}
 use Rattle.tables.proofs.Laws.{is-tabulate}
-use Rattle.targets.specs.Cube.{G, cube}
+use Rattle.targets.specs.Cube.{G, cubed}
 use Rattle.targets.specs.Paper.{area, added₂, taken₂, taken₃}
 use Rattle.targets.specs.Facts.{TargetsAreRight}
 use Rattle.targets.proofs.EachBetween.{allBelow, each-between, first-of-both, second-of-both}
@@ -42,10 +42,10 @@ table-is table size passed =
     (λ k h. eqb→eq (getD table k 0) (G k) (upTo765 (follows table) passed k (omega arith)))
 
 middle-exact : ℕ → Bool
-middle-exact k = leb (2 * cube k + 9 * (255 * 255) * k) (3 * cube 255 + 9 * 255 * (k * k))
+middle-exact k = leb (2 * cubed k + 9 * (255 * 255) * k) (3 * cubed 255 + 9 * 255 * (k * k))
 
 high-exact : ℕ → Bool
-high-exact k = leb (cube (765 - k)) (6 * cube 255)
+high-exact k = leb (cubed (765 - k)) (6 * cubed 255)
 
 area₂-exact : ℕ → Bool
 area₂-exact k = taken₂ (k over 255) ≼ᵇ added₂ (k over 255)
@@ -57,7 +57,7 @@ steps-up : ℕ → Bool
 steps-up k = ltb (G k) (G (suc k))
 
 by-equation-11 : ℕ → Bool
-by-equation-11 k = sameNumber (whole (cube 255) ⊗ area (k over 255)) (whole (G k))
+by-equation-11 k = sameNumber (whole (cubed 255) ⊗ area (k over 255)) (whole (G k))
 
 -- what rises at each step below n rises from any place to any later one
 rising : (g : ℕ → ℕ) (n : ℕ) → ((k : ℕ) → k < n → g k < g (suc k)) → (j k : ℕ) → j < k → k ≤ n → g j < g k
@@ -69,7 +69,7 @@ steps : (k : ℕ) → k < 765 → G k < G (suc k)
 unfolding steps-up G
 steps k h = ltb→lt (G k) (G (suc k)) (each-between steps-up 0 765 tt k (omega arith) (omega arith))
 
-eq11 : (k : ℕ) → k ≤ 765 → whole (cube 255) ⊗ area (k over 255) ≈ whole (G k)
+eq11 : (k : ℕ) → k ≤ 765 → whole (cubed 255) ⊗ area (k over 255) ≈ whole (G k)
 unfolding by-equation-11 G area
 eq11 k h = same-number _ _ (upTo765 by-equation-11 tt k h)
 

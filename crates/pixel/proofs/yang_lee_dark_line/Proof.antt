@@ -1,10 +1,10 @@
--- `pixel::yang_lee_dark` meets its contract: cases (I-i) and (I-ii) of the paper.
+-- `pixel::yang_lee_dark_line` meets its contract: cases (I-i) and (I-ii) of the paper.
 use native.Mathlib.Omega.{arith}
 use borrow.Author.Needs.{needs}
 use borrow.Author.Tests.{le-leb, lt-leb}
 use Rattle.pixel.specs.Lines.{yangLeeLine}
-use Rattle.pixel.proofs.yang_lee_dark.Statement.{statement}
-use Rattle.pixel.proofs.yang_lee_dark.Tie as tie
+use Rattle.pixel.proofs.yang_lee_dark_line.Statement.{statement}
+use Rattle.pixel.proofs.yang_lee_dark_line.Tie as tie
 
 up-from-requires : tie.Need-up-from-requires
 up-from-requires c κs = search needs
@@ -30,7 +30,7 @@ returns-2 c =
     let a = c .before .before .args in
     simp (le-leb (a .s) 255 (omega arith), lt-leb (a .f) 255 (omega arith)) (c .down-from .ensures)
 
-pub yang-lee-dark-spec : {M : Type 1} → statement M
-yang-lee-dark-spec =
+pub yang-lee-dark-line-spec : {M : Type 1} → statement M
+yang-lee-dark-line-spec =
     tie.close
     (tie.spec up-from-requires returns sub-down-from mul-down-from down-from-requires returns-2)

@@ -1,10 +1,10 @@
--- `pixel::yang_lee_bright` meets its contract: cases (III-i) and (III-ii) of the paper.
+-- `pixel::yang_lee_bright_line` meets its contract: cases (III-i) and (III-ii) of the paper.
 use native.Mathlib.Omega.{arith}
 use borrow.Author.Needs.{needs}
 use borrow.Author.Tests.{le-leb, lt-leb}
 use Rattle.pixel.specs.Lines.{yangLeeLine}
-use Rattle.pixel.proofs.yang_lee_bright.Statement.{statement}
-use Rattle.pixel.proofs.yang_lee_bright.Tie as tie
+use Rattle.pixel.proofs.yang_lee_bright_line.Statement.{statement}
+use Rattle.pixel.proofs.yang_lee_bright_line.Tie as tie
 
 sub-t : tie.Need-sub-t
 sub-t c = search needs
@@ -36,8 +36,8 @@ returns-2 c =
     let a = c .before .before .args in
     simp (lt-leb (a .s) 255 (omega arith), lt-leb (a .s) 510 (omega arith), lt-leb (a .f) 510 (omega arith)) (c .down-from .ensures)
 
-pub yang-lee-bright-spec : {M : Type 1} → statement M
-yang-lee-bright-spec =
+pub yang-lee-bright-line-spec : {M : Type 1} → statement M
+yang-lee-bright-line-spec =
     tie.close
     (tie.spec
     sub-t

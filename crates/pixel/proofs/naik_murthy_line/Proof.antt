@@ -1,10 +1,10 @@
--- `pixel::naik_murthy` meets its contract: cases (i) and (ii) of the paper.
+-- `pixel::naik_murthy_line` meets its contract: cases (i) and (ii) of the paper.
 use native.Mathlib.Omega.{arith}
 use borrow.Author.Needs.{needs}
 use borrow.Author.Tests.{le-leb, lt-leb}
 use Rattle.pixel.specs.Lines.{naikMurthyLine}
-use Rattle.pixel.proofs.naik_murthy.Statement.{statement}
-use Rattle.pixel.proofs.naik_murthy.Tie as tie
+use Rattle.pixel.proofs.naik_murthy_line.Statement.{statement}
+use Rattle.pixel.proofs.naik_murthy_line.Tie as tie
 
 up-from-requires : tie.Need-up-from-requires
 up-from-requires c κs = search needs
@@ -26,7 +26,7 @@ returns-2 : tie.Need-returns-2
 unfolding naikMurthyLine
 returns-2 c = let a = c .before .before .args in simp (lt-leb (a .f) (a .s) (omega arith)) (c .down-from .ensures)
 
-pub naik-murthy-spec : {M : Type 1} → statement M
-naik-murthy-spec =
+pub naik-murthy-line-spec : {M : Type 1} → statement M
+naik-murthy-line-spec =
     tie.close
     (tie.spec up-from-requires returns sub-down-from sub-down-from-2 down-from-requires returns-2)

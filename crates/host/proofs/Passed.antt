@@ -1,48 +1,46 @@
 -- What an accepted call has passed.
 use mathlib.Core.Path.{_≡_, refl, sym, _∙_}
 use mathlib.Core.Bool.{Bool, true, false}
-use mathlib.Core.List.{List}
-use Prim.Native.Nat.{ℕ, _/_}
+use mathlib.Core.List.{List, []}
+use Prim.Native.Nat.{ℕ}
 use native.Mathlib.Omega.{arith}
-use borrow.Author.Tests.{not-false, ltb-false, eqb-false, eqb-true, eq-eqb}
-use lib.Dec.{ltb, eqb}
+use borrow.Author.Tests.{not-false, eqb-true, eq-eqb}
+use lib.Dec.{eqb}
 use lib.ListN.{length}
-use Rattle.refusal.specs.Refusal.{firstOf}
-use Rattle.refusal.proofs.Laws.{none-applies}
+use Rattle.refusal.specs.Refusal.{Check, firstOf}
+use Rattle.refusal.proofs.Laws.{none-applies, accepted}
 use Rattle.pixel.specs.Methods.{isMethod}
 use Rattle.pixel.specs.Strip.{isWhole}
-use Rattle.measuring.specs.Histogram.{pixelLimit}
 use Rattle.curve.specs.Choices.{isChoice}
 use Rattle.curve.specs.Curve.{IsToneCurve}
-use Rattle.strip_curve.specs.OneStrip.{stripNumber}
-use Rattle.strip_curve.proofs.Laws.{StripAccepted}
+use Rattle.strip_curve.specs.OneStrip.{stripChecksOf, stripNumber}
+use Rattle.strip_curve.proofs.Laws.{StripAccepted, strip-passed}
 use Rattle.curve_bytes.specs.CurveBytes.{curveLength, curveEntries, keepsCurveRule}
 use Rattle.curve_bytes.proofs.CurveBytes.{length-entries, curve-sound}
 use Rattle.host.specs.Host.{CurveCall, curveChecks, curveOutcome, ColourCall, colourChecks, colourOutcome}
 
 -- where 4 or 10 applies, the others do not matter
-four-ten-first : (known sized whole empty over : Bool) → (firstOf (curveChecks known sized true false false) ≡ 0 → ⊥)
-    → firstOf (curveChecks known sized true false false) ≡ firstOf (curveChecks known sized whole empty over)
-four-ten-first false sized whole empty over refused = refl
-four-ten-first true false whole empty over refused = refl
-four-ten-first true true whole empty over refused = absurd (refused refl)
+four-ten-first : (known sized : Bool) (strip : List Check) → (firstOf (curveChecks known sized []) ≡ 0 → ⊥)
+    → firstOf (curveChecks known sized []) ≡ firstOf (curveChecks known sized strip)
+four-ten-first false sized strip refused = refl
+four-ten-first true false strip refused = refl
+four-ten-first true true strip refused = absurd (refused refl)
 
 -- A curve call with the number that 4 and 10 gave it.
 module _ (c : CurveCall) (known : Bool) (n : ℕ) (knownIs : known ≡ isChoice (c .choice))
-    (is : n ≡ firstOf (curveChecks known (eqb (length (c .curve)) curveLength) true false false)) where
+    (is : n ≡ firstOf (curveChecks known (eqb (length (c .curve)) curveLength) [])) where
   -- refused, it has this number
   pub call-refused : (n ≡ 0 → ⊥) → n ≡ curveOutcome c .number
   unfolding curveOutcome
   call-refused refused =
-      let strip = length (c .strip) in
       is
-      ∙ four-ten-first known (eqb (length (c .curve)) curveLength) (isWhole strip) (eqb strip 0) (ltb pixelLimit (strip / 3)) (λ z. refused (is ∙ z))
+      ∙ four-ten-first known (eqb (length (c .curve)) curveLength) (stripChecksOf (length (c .strip))) (λ z. refused (is ∙ z))
       ∙ rw knownIs refl
 
   -- else choice and length are right
   both-right : n ≡ 0 → (known ≡ true) × (eqb (length (c .curve)) curveLength ≡ true)
   both-right zero =
-      let (choice, (size, _)) = none-applies (curveChecks known (eqb (length (c .curve)) curveLength) true false false) refl (sym is ∙ zero) in
+      let (choice, (size, _)) = none-applies (curveChecks known (eqb (length (c .curve)) curveLength) []) refl (sym is ∙ zero) in
       (not-false _ choice, not-false _ size)
 
   pub call-known : n ≡ 0 → isChoice (c .choice) ≡ true
@@ -64,14 +62,13 @@ pub record HostCurveAccepted (c : CurveCall) : Type 0 where
 pub curve-passed : (c : CurveCall) → curveOutcome c .number ≡ 0 → HostCurveAccepted c
 unfolding curveOutcome
 curve-passed c e =
-    let strip = length (c .strip) in
-    let checks =
-    curveChecks (isChoice (c .choice)) (eqb (length (c .curve)) curveLength) (isWhole strip) (eqb strip 0) (ltb pixelLimit (strip / 3)) in
-    let (known, (sized, (whole, (some, (limit, _))))) = none-applies checks refl e in
+    let strip = stripChecksOf (length (c .strip)) in
+    let checks = curveChecks (isChoice (c .choice)) (eqb (length (c .curve)) curveLength) strip in
+    let (known, (sized, none)) = none-applies checks refl e in
     record {
       known = not-false _ known;
       size = eqb-true _ _ (not-false _ sized);
-      strip = record { whole = not-false _ whole; some = omega (arith, eqb-false strip 0 some); limit = ltb-false _ _ limit };
+      strip = strip-passed (c .strip) (accepted strip none);
     }
 
 -- A colour call whose curve has its length, with the number that the other checks gave it.

@@ -1,15 +1,15 @@
 -- What the host's calls hand back and leave in the runs lent to them (document 01, "The panel's host", "Who can cause which refusal").
 use mathlib.Core.Bool.{Bool, not}
 use mathlib.Core.List.{List, [], _∷_}
-use Prim.Native.Nat.{ℕ, _/_}
-use lib.Dec.{ltb, eqb}
+use Prim.Native.Nat.{ℕ}
+use lib.Dec.{eqb}
 use lib.ListN.{length}
 use Rattle.refusal.specs.Refusal.{Check, _refuses_, firstOf, ifAccepted}
 use Rattle.pixel.specs.Methods.{isMethod, methodOf}
 use Rattle.pixel.specs.Strip.{isWhole}
-use Rattle.measuring.specs.Histogram.{pixelLimit}
 use Rattle.curve.specs.Choices.{isChoice}
 use Rattle.curve.specs.Curve.{curveOf}
+use Rattle.strip_curve.specs.OneStrip.{stripChecksOf}
 use Rattle.curve_bytes.specs.CurveBytes.{curveLength, curveBytes, curveEntries, keepsCurveRule}
 use Rattle.colouring.specs.Colouring.{colouredStrip}
 
@@ -28,19 +28,17 @@ pub record CurveCall : Type 0 where
   pub choice : ℕ
   pub curve : List ℕ
 
--- Host curve 4, 10, 2, 5, 3. 4: the curve choice is not 1 or 2. 10: a curve's bytes are not 1,532 long. 2: the strip's length is not a
--- multiple of 3. 5: an empty strip. 3: the pixels would exceed the limit.
-abbrev pub curveChecks : Bool → Bool → Bool → Bool → Bool → List Check
-curveChecks known sized whole empty over =
-    not known refuses 4 ∷ not sized refuses 10 ∷ not whole refuses 2 ∷ empty refuses 5 ∷ over refuses 3 ∷ []
+-- Host curve 4, 10, 2, 5, 3. 4: the curve choice is not 1 or 2. 10: a curve's bytes are not 1,532 long. Then what the strip itself can be
+-- refused for: 2, 5, 3.
+abbrev pub curveChecks : (known sized : Bool) → List Check → List Check
+curveChecks known sized strip = not known refuses 4 ∷ not sized refuses 10 ∷ strip
 
 -- "One call takes a strip and a choice and writes the curve of that strip taken as a whole shot": the book's curve of this one strip.
 unfoldable pub curveOutcome : CurveCall → Outcome
 curveOutcome c =
     outcomeOf
     (firstOf
-    (curveChecks (isChoice (c .choice)) (eqb (length (c .curve)) curveLength) (isWhole (length (c .strip))) (eqb (length (c .strip)) 0)
-    (ltb pixelLimit (length (c .strip) / 3))))
+    (curveChecks (isChoice (c .choice)) (eqb (length (c .curve)) curveLength) (stripChecksOf (length (c .strip)))))
     (curveBytes (curveOf (c .choice) (c .strip ∷ [])))
     (c .curve)
 
@@ -53,7 +51,7 @@ pub record ColourCall : Type 0 where
 
 -- Host colour 10, 11, 7, 2, 8. 10: a curve's bytes are not 1,532 long. 11: the curve breaks the rule. 7: the method is not 1 or 2. 2: the
 -- source's length is not a multiple of 3. 8: destination and source differ in length.
-abbrev pub colourChecks : Bool → Bool → Bool → Bool → Bool → List Check
+abbrev pub colourChecks : (sized ruled known whole same : Bool) → List Check
 colourChecks sized ruled known whole same =
     not sized refuses 10 ∷ not ruled refuses 11 ∷ not known refuses 7 ∷ not whole refuses 2 ∷ not same refuses 8 ∷ []
 

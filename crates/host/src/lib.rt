@@ -1,12 +1,13 @@
 // The calls for the panel's host program, which is written in C (document 01, "The panel's host"). They keep nothing between calls.
 ghost use mathlib.Core.Path.{_≡_};
-ghost use mathlib.Core.Bool.{true, false};
+ghost use mathlib.Core.Bool.{true};
+ghost use mathlib.Core.List.{[]};
 ghost use Rattle.refusal.specs.Refusal.{firstOf};
 ghost use Rattle.host.specs.Host.{curveChecks, curveOutcome, colourChecks, colourOutcome};
 
 // Host curve 4, 10, before the strip's own 2, 5, 3: 0, or the number of the first that applies.
 fn curve_refusal(known: bool, sized: bool) -> u32
-    ensures { λ r. ⌜ r ≡ firstOf (curveChecks known sized true false false) ⌝ }
+    ensures { λ r. ⌜ r ≡ firstOf (curveChecks known sized []) ⌝ }
 {
     if !known {
         return refusal::NO_SUCH_CHOICE;

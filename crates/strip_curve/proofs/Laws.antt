@@ -22,7 +22,7 @@ use Rattle.curve.specs.declared.Choice.{Choice}
 use Rattle.curve.proofs.Histogram.{tally-is-histogram}
 use Rattle.curve.proofs.Numbers.{choices-are-numbered}
 use Rattle.curve.proofs.Strips.{curve-of-tally, curve-of-shape}
-use Rattle.strip_curve.specs.OneStrip.{stripChecks, stripNumber, stripCurve}
+use Rattle.strip_curve.specs.OneStrip.{stripChecksOf, stripNumber, stripCurve}
 use Rattle.strip_curve.specs.declared.StripCurve.{StripCurve}
 
 -- What is handed back, from the number that the checks gave.
@@ -54,9 +54,8 @@ pub record StripAccepted (strip : ℕ) : Type 0 where
 
 pub strip-passed : (strip : List ℕ) → stripNumber strip ≡ 0 → StripAccepted (length strip)
 strip-passed strip e =
-    let size = length strip in
-    let (whole, (some, (limit, _))) = none-applies (stripChecks (isWhole size) (eqb size 0) (ltb pixelLimit (size / 3))) refl e in
-    record { whole = not-false _ whole; some = omega (arith, eqb-false size 0 some); limit = ltb-false _ _ limit }
+    let (whole, (some, (limit, _))) = none-applies (stripChecksOf (length strip)) refl e in
+    record { whole = not-false _ whole; some = omega (arith, eqb-false (length strip) 0 some); limit = ltb-false _ _ limit }
 
 pub strip-accepted : (strip : List ℕ) → StripAccepted (length strip) → stripNumber strip ≡ 0
 strip-accepted strip ok =

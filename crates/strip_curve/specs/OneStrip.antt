@@ -14,13 +14,16 @@ use Rattle.strip_curve.specs.declared.StripCurve.{StripCurve}
 
 -- What the strip itself can be refused for, in the order of host curve: 2, 5, 3. 2: its length is not a multiple of 3. 5: it is empty.
 -- 3: its pixels exceed the limit.
-abbrev pub stripChecks : Bool → Bool → Bool → List Check
+abbrev pub stripChecks : (whole empty over : Bool) → List Check
 stripChecks whole empty over = not whole refuses 2 ∷ empty refuses 5 ∷ over refuses 3 ∷ []
+
+-- The same, for a strip of this length.
+abbrev pub stripChecksOf : ℕ → List Check
+stripChecksOf n = stripChecks (isWhole n) (eqb n 0) (ltb pixelLimit (n / 3))
 
 -- The number for a strip: 0, or that of the first of these that applies.
 abbrev pub stripNumber : List ℕ → ℕ
-stripNumber strip =
-    firstOf (stripChecks (isWhole (length strip)) (eqb (length strip) 0) (ltb pixelLimit (length strip / 3)))
+stripNumber strip = firstOf (stripChecksOf (length strip))
 
 -- What is handed back for a strip and a choice: the number, and the curve of this one strip; for a refused strip, zeros.
 unfoldable pub stripCurve : Choice → List ℕ → StripCurve

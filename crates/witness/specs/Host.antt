@@ -3,14 +3,12 @@
 use mathlib.Core.Path.{_≡_}
 use mathlib.Core.Bool.{true}
 use mathlib.Core.List.{List, [], _∷_, _++_, map}
-use Prim.Native.Nat.{ℕ, _/_}
-use lib.Dec.{ltb, eqb}
+use Prim.Native.Nat.{ℕ}
 use lib.ListN.{length, replicate}
 use Rattle.refusal.specs.Refusal.{firstOf}
 use Rattle.tables.specs.Table.{at}
-use Rattle.pixel.specs.Strip.{isWhole}
-use Rattle.measuring.specs.Histogram.{pixelLimit}
 use Rattle.witness.specs.Strips.{two, one, both, uneven}
+use Rattle.strip_curve.specs.OneStrip.{stripChecksOf}
 use Rattle.curve_bytes.specs.CurveBytes.{curveBytes}
 use Rattle.host.specs.Accuracy.{written}
 use Rattle.host.specs.Host.{Outcome, CurveCall, curveChecks, curveOutcome, ColourCall, colourOutcome}
@@ -75,7 +73,7 @@ colourCalls =
 pub record WitnessRuns : Type 0 where
   pub curveNumbers : map (λ c. curveOutcome c .number) curveCalls ≡ 4 ∷ 10 ∷ 2 ∷ 5 ∷ 0 ∷ 0 ∷ []
   -- 3, which needs more pixels than can be listed here, by the strip's length: the limit, one pixel more, and a byte more than that
-  pub lengths : map (λ n. firstOf (curveChecks true true (isWhole n) (eqb n 0) (ltb pixelLimit (n / 3)))) (50331648 ∷ 50331651 ∷ 50331652 ∷ []) ≡ 0 ∷ 3 ∷ 2 ∷ []
+  pub lengths : map (λ n. firstOf (curveChecks true true (stripChecksOf n))) (50331648 ∷ 50331651 ∷ 50331652 ∷ []) ≡ 0 ∷ 3 ∷ 2 ∷ []
   pub untouched : curveOutcome (curveCall uneven 1 run) .bytes ≡ run
   -- the strip has a pixel of intensity 60 and one of intensity 630; the cube curve's entries there are 0, 382, 382 and 765, the
   -- equalised one's 0, 383, 383 and 765

@@ -76,7 +76,7 @@ AtMostBelow n v w = intensity (v .input) ≤ intensity (w .input) → intensity 
 
 -- Demand 3's: at most two below.
 abbrev pub AtMostTwoBelow : Written → Written → Type 0
-AtMostTwoBelow = AtMostBelow 2
+AtMostTwoBelow = AtMostBelow (mission .below)
 
 -- Claim: any two pixels written by one tone curve keep that order, in whichever colourings and by whichever methods.
 -- Proved: proofs/Written.antt, `one-curve-keeps-order`.

@@ -82,7 +82,7 @@ module _ (x : Channel → ℕ) (n d : ℕ) (positive : 0 < d) (total : x red + x
     along-line Up aims away out =
         record {
           range = λ a. omega (arith, out a, rounded-range a);
-          sum = (omega (arith, rounded-sum, out red, out green, out blue), omega (arith, rounded-sum, out red, out green, out blue));
+          sum = (omega arith, omega arith, omega arith, omega (arith, rounded-sum, out red, out green, out blue), omega (arith, rounded-sum, out red, out green, out blue));
           channels = record {
             denominator = positive;
             order = λ a b h. omega (arith, out a, out b, rounded-order a b (omega (arith, away a, away b)));
@@ -93,7 +93,7 @@ module _ (x : Channel → ℕ) (n d : ℕ) (positive : 0 < d) (total : x red + x
         let both = make-up out in
         record {
           range = λ a. omega (arith, out a);
-          sum = (omega (arith, rounded-sum, both red, both green, both blue), omega (arith, rounded-sum, both red, both green, both blue));
+          sum = (omega arith, omega arith, omega arith, omega (arith, rounded-sum, both red, both green, both blue), omega (arith, rounded-sum, both red, both green, both blue));
           channels = record {
             denominator = positive;
             order = λ a b h. omega (arith, both a, both b, rounded-order b a (omega (arith, away a, away b)));
@@ -124,7 +124,7 @@ flat-accurate p c le flat =
     let out = sample-each (λ _. c) p in
     record {
       range = λ a. omega (arith, out a);
-      sum = (omega arith, omega arith);
+      sum = (omega arith, omega arith, omega arith, omega arith, omega arith);
       channels = record {
         denominator = omega arith;
         order = λ a b h. omega (arith, out a, out b);

@@ -41,10 +41,12 @@ pub record Tolerance : Type 0 where
   pub steps : ℕ
   -- the intensity, the demand's "sum": at most so far
   pub sum : Fraction
+  -- of two pixels, the one that was no darker: at most so much below the other
+  pub below : ℕ
 
--- Demand 3's own: "give or take less than a full step", and "at most one from the curve's entry".
+-- Demand 3's own: "give or take less than a full step", "at most one from the curve's entry", "at most two below the other's".
 abbrev pub mission : Tolerance
-mission = record { steps = 1; sum = whole 1 }
+mission = record { steps = 1; sum = whole 1; below = 2 }
 
 -- x' − y' is less than n steps above, and less than n steps below, (x − y) × k; both sides times k's denominator.
 abbrev pub WithinSteps : ℕ → Fraction → ℕ → ℕ → ℕ → ℕ → Type 0

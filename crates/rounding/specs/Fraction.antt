@@ -55,9 +55,9 @@ x ≺ y = x .num * y .den < y .num * x .den
 abbrev pub Within : Fraction → Fraction → Fraction → Type 0
 Within w x y = (x ≺ y ⊕ w) × (y ≺ x ⊕ w)
 
--- x and y are at most w apart, where all three denominators are positive
+-- x and y are at most w apart, and all three are numbers
 abbrev pub AtMostApart : Fraction → Fraction → Fraction → Type 0
-AtMostApart w x y = (x ≼ y ⊕ w) × (y ≼ x ⊕ w)
+AtMostApart w x y = (0 < w .den) × (0 < x .den) × (0 < y .den) × (x ≼ y ⊕ w) × (y ≼ x ⊕ w)
 
 -- x and y are the same number
 abbrev pub _≈_ : Fraction → Fraction → Type 0

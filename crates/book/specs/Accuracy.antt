@@ -85,7 +85,7 @@ colouringOf b c o =
       after = o .bytes;
     }
 
--- A step, taken so.
+-- A step of a list, taken as a colouring.
 abbrev pub colouringIn : Step → Colouring
 colouringIn t = colouringOf (t .book) (t .call) (t .outcome)
 

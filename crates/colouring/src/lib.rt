@@ -1,5 +1,4 @@
-// Colouring a strip by a curve and a method (document 01, "Moving a pixel"). All pixels of one intensity go to one target, and their
-// written samples then lie on one line: a line takes at most one division, and a pixel none.
+// Colouring a strip by a curve and a method (document 01, "Moving a pixel"), along the lines of its intensities.
 ghost use mathlib.Core.Path.{_≡_};
 ghost use Rattle.curve.specs.Curve.{EntriesInRange};
 ghost use Rattle.colouring.specs.Colouring.{colouredStrip};

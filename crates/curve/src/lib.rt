@@ -160,7 +160,7 @@ fn equalised_entry(full: u64, share: u64) -> u16
     rounding::rounded(765 * share, full) as u16
 }
 
-// For each intensity that number.
+// That number for each intensity's share.
 fn equalised_entries(full: u64, shares: &[u64; 766]) -> [u16; 766]
     requires { ⌜ SharesFit full (now shares) ⌝ }
     ensures { λ r. ⌜ r ≡ tabulate (λ s. equalisedEntry full (at (now (shares .entry)) s)) 766 ⌝ }

@@ -117,7 +117,7 @@ struct Tones {
     before: u64,
 }
 
-// That of a strip.
+// How a strip came out.
 fn tones_of(strip: &[u8]) -> Tones
     ensures { λ r. ⌜ r ≡ tonesOf (pixelsOf (now (strip .entry))) ⌝ }
 {

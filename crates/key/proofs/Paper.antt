@@ -7,7 +7,8 @@ use borrow.Author.Tests.{le-leb, lt-leb, eq-eqb, ne-eqb}
 use Rattle.rounding.specs.Fraction.{Fraction, whole, _over_, _⊕_, _⊗_, _≈_}
 use Rattle.tables.proofs.Cases.{either}
 use Rattle.pixel.specs.Accuracy.{factor}
-use Rattle.pixel.specs.Inner.{AtMostWhite, MovingSample}
+use Rattle.pixel.specs.Inner.{AtMostWhite}
+use Rattle.pixel.specs.Moving.{MovingSample}
 use Rattle.pixel.specs.Lines.{lineOf, distance, fraction, exactly}
 use Rattle.pixel.specs.Move.{Channel, sample, intensity}
 use Rattle.pixel.specs.Paper.{Exact, Exact.up, paper, codeValue}

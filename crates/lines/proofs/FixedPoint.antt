@@ -1,14 +1,14 @@
 -- A line in fixed point gives at each sample what the line itself gives: the rounded multiple of its fraction, counted up from black or down
 -- from white.
-use mathlib.Core.Path.{_≡_, refl, sym, ap, _∙_}
+use mathlib.Core.Path.{_≡_, sym, ap, _∙_}
 use Prim.Native.Nat.{ℕ, _+_, _-_, _*_, _/_, _%_, _^_, _≤_, _<_}
 use native.Mathlib.Nat.{add-mul, mul-le-mul, mul-le-mul-right, div-lt-iff-lt-mul}
 use native.Mathlib.Omega.{arith}
 use Rattle.rounding.specs.Near.{near}
 use Rattle.rounding.specs.Slope.{slope}
 use Rattle.rounding.proofs.Slope.{multiply-and-shift}
-use Rattle.pixel.specs.Inner.{Moving, MovingSample}
-use Rattle.pixel.specs.Lines.{lineOf, distance, counted, onLine}
+use Rattle.pixel.specs.Moving.{Moving, MovingSample}
+use Rattle.pixel.specs.Lines.{lineOf, distance, counted}
 use Rattle.pixel.specs.Move.{movedSample}
 use Rattle.pixel.specs.declared.Direction.{Direction}
 use Rattle.pixel.specs.declared.Direction.the-variants.{Up, Down}

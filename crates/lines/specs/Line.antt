@@ -1,12 +1,12 @@
--- The lines by which a strip is coloured, in fixed point. All pixels of one intensity go to one target along one line; its fraction is held once,
--- by one division, and each sample is then a multiplication and an addition.
+-- The lines by which a strip is coloured, in fixed point: a line's fraction is held once, by one division, and each sample is then a
+-- multiplication and an addition.
 use mathlib.Core.List.{List}
 use mathlib.Core.Path.{_≡_}
 use Prim.Native.Nat.{ℕ, _+_, _-_, _*_, _/_, _%_, _^_, _≤_, _<_}
 use lib.ListN.{getD}
 use Rattle.rounding.specs.Slope.{slope}
 use Rattle.tables.specs.Table.{at}
-use Rattle.pixel.specs.Inner.{PixelSample}
+use Rattle.pixel.specs.Moving.{PixelSample}
 use Rattle.pixel.specs.Move.{movedSample}
 use Rattle.pixel.specs.declared.Direction.{Direction}
 use Rattle.pixel.specs.declared.Direction.the-variants.{Up, Down}
@@ -14,7 +14,7 @@ use Rattle.pixel.specs.declared.Line.{Line}
 use Rattle.pixel.specs.declared.Method.{Method}
 use Rattle.lines.specs.declared.FixedLine.{FixedLine}
 
--- A line has 2^24 parts to a step of a sample.
+-- Half a step of a sample: a line has 2^24 parts to a step.
 abbrev pub half : ℕ
 half = 2 ^ 23
 

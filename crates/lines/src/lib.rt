@@ -11,11 +11,13 @@ use pixel::Method;
 // A line has so many parts to a step of a sample, 2^24: a power of two, so that the division is a shift.
 pub const STEP: u32 = 16777216;
 
+// Half a step, by which whole steps are rounded to the nearest.
 const HALF: u64 = 8388608;
 
 // Parts are held in 32 bits, which is 256 steps: what goes beyond is a multiple of them and does not change a sample.
 const PERIOD: u64 = 4294967296;
 
+// The last of them.
 const LAST_PART: u64 = 4294967295;
 
 // 256 periods: more parts than an offset takes away.
@@ -24,6 +26,7 @@ const PERIODS: u64 = 1099511627776;
 // The parts of 255 steps.
 const WHITE: u32 = 4278190080;
 
+// A line in fixed point: the parts that each step of the sample read adds, and those at the sample 0.
 pub struct FixedLine {
     pub slope: u32,
     pub offset: u32,

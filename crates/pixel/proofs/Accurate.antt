@@ -10,7 +10,7 @@ use Rattle.rounding.specs.Near.{near}
 use Rattle.rounding.specs.Fraction.{Fraction, whole, _over_}
 use Rattle.rounding.proofs.Laws.{near-le, near-mono, near-sum, near-difference, WithinOne}
 use Rattle.tables.proofs.Cases.{either}
-use Rattle.pixel.specs.Inner.{Moving, MovingSample}
+use Rattle.pixel.specs.Moving.{Moving, MovingSample}
 use Rattle.pixel.specs.Lines.{lineOf, distance, counted}
 use Rattle.pixel.specs.Move.{Channel, Channel.red, Channel.green, Channel.blue, sample, InRange, intensity, movedSample, moved, eachSample}
 use Rattle.pixel.specs.Accuracy.{factor, mission, PixelAccurate, MovesAreAccurate, EndsStay}

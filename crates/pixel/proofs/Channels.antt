@@ -2,7 +2,7 @@
 use mathlib.Core.Path.{_≡_, refl}
 use Prim.Native.Nat.{ℕ, _≤_}
 use native.Mathlib.Omega.{arith}
-use Rattle.pixel.specs.Inner.{PixelSample}
+use Rattle.pixel.specs.Moving.{PixelSample}
 use Rattle.pixel.specs.Move.{Channel, Channel.red, Channel.green, Channel.blue, sample, InRange, intensity, eachSample}
 use Rattle.pixel.specs.declared.Pixel.{Pixel}
 

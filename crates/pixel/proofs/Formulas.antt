@@ -4,7 +4,7 @@ use Prim.Native.Nat.{ℕ, _-_, _*_, _<_}
 use native.Mathlib.Nat.{sub-zero, mul-one, one-mul, mul-assoc, mul-comm, mul-left-comm}
 use native.Mathlib.Omega.{arith}
 use Rattle.rounding.specs.Fraction.{Fraction, whole, _over_, _⊖_, _⊗_, _⊘_, _≈_}
-use Rattle.pixel.specs.Inner.{MovingSample}
+use Rattle.pixel.specs.Moving.{MovingSample}
 
 -- x/255 divided by z/255
 abbrev ratio : ℕ → ℕ → Fraction

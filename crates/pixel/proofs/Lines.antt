@@ -10,7 +10,8 @@ use Rattle.rounding.specs.Near.{near}
 use Rattle.rounding.proofs.Laws.{near-le}
 use Rattle.tables.proofs.Cases.{either}
 use Rattle.pixel.specs.Accuracy.{factor₁, factor₂, factorBy, factor}
-use Rattle.pixel.specs.Inner.{AtMostWhite, Moving, MovingSample}
+use Rattle.pixel.specs.Inner.{AtMostWhite}
+use Rattle.pixel.specs.Moving.{Moving, MovingSample}
 use Rattle.pixel.specs.Lines.{upFrom, downFrom, naikMurthyLine, yangLeeLine, lineOf, distance, fraction, exactly, onLine, MovesFollowLines, FactorsAreFractions, ExactOnLine, PaperFollowsLines}
 use Rattle.pixel.specs.Move.{InRange, Channel.red, Channel.green, Channel.blue, intensity, naikMurthy, yangLee, byMethod, movedSample}
 use Rattle.pixel.specs.Paper.{Exact, paper₁, paper₂, paperI, paperIII, paperBy, paper}

@@ -8,7 +8,8 @@ use Rattle.rounding.specs.Near.{near, NearestHalfUp, NearestHalfDown}
 use Rattle.rounding.specs.Fraction.{Fraction, whole, _over_, _⊗_, _≈_, nearest}
 use Rattle.rounding.proofs.Laws.{near-same, near-window}
 use Rattle.tables.proofs.Cases.{either}
-use Rattle.pixel.specs.Inner.{AtMostWhite, PixelSample, MovingSample}
+use Rattle.pixel.specs.Inner.{AtMostWhite}
+use Rattle.pixel.specs.Moving.{PixelSample, MovingSample}
 use Rattle.pixel.specs.Lines.{lineOf, counted, exactly}
 use Rattle.pixel.specs.Move.{sample, intensity, movedSample, moved}
 use Rattle.pixel.specs.Paper.{Exact, paper, Rounds, MovesRoundThePaper, WithinHalf, MovesAreWithinHalf, InCube, PaperStaysInTheCube, NothingCutOff, FormulasAreExact}

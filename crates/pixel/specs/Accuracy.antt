@@ -27,6 +27,7 @@ factor₂ s f =
     -- s above 510: f / (2 × t) for f at most 510, (765 − f) / t for f above 510
     (cond (leb f 510) (f over (2 * t)) ((765 - f) over t)))
 
+-- By the method.
 abbrev pub factorBy : Method → ℕ → ℕ → Fraction
 factorBy NaikMurthy = factor₁
 factorBy YangLee = factor₂

@@ -4,5 +4,6 @@ pub mod Strip
 pub mod MoveOne
 pub mod Paper
 pub mod Accuracy
-pub mod Inner
+pub mod Moving
 pub mod Lines
+pub mod Inner

@@ -1,12 +1,13 @@
--- The lines that samples move along. By either method, all samples of the pixels of intensity s that are moved to f lie on one line, from its
--- start on by its fraction. Document 01's six formulas for them are four lines: two go up from black and two go down from white.
+-- The lines that samples move along. By either method, the samples of all pixels of one intensity, neither black nor white, that are moved to
+-- one target lie on one line: at the distance x from the line's start, a sample goes to x times the line's fraction, counted up from black or
+-- down from white. Document 01's six formulas are four such lines.
 use mathlib.Core.Path.{_≡_}
 use mathlib.Core.Bool.{cond}
 use Prim.Native.Nat.{ℕ, _-_, _*_}
 use lib.Dec.{leb}
 use Rattle.rounding.specs.Fraction.{Fraction, whole, _over_, _⊗_, _≈_, nearest}
 use Rattle.pixel.specs.Accuracy.{factor}
-use Rattle.pixel.specs.Inner.{Moving, MovingSample}
+use Rattle.pixel.specs.Moving.{Moving, MovingSample}
 use Rattle.pixel.specs.Move.{movedSample}
 use Rattle.pixel.specs.Paper.{Exact, Exact.up, Exact.down, paper}
 use Rattle.pixel.specs.declared.Direction.{Direction}
@@ -15,11 +16,11 @@ use Rattle.pixel.specs.declared.Line.{Line}
 use Rattle.pixel.specs.declared.Method.{Method}
 use Rattle.pixel.specs.declared.Method.the-variants.{NaikMurthy, YangLee}
 
--- Up from `start` by n / d.
+-- Counted up from black: 0 at the sample `start`, and n / d more with each step above it.
 abbrev pub upFrom : ℕ → ℕ → ℕ → Line
 upFrom start n d = record { direction = Up; start = start; numerator = n; denominator = d }
 
--- Down from `start` by n / d.
+-- Counted down from white: 255 at the sample `start`, and n / d less with each step below it.
 abbrev pub downFrom : ℕ → ℕ → ℕ → Line
 downFrom start n d = record { direction = Down; start = start; numerator = n; denominator = d }
 
@@ -45,15 +46,16 @@ abbrev pub lineOf : Method → ℕ → ℕ → Line
 lineOf NaikMurthy = naikMurthyLine
 lineOf YangLee = yangLeeLine
 
--- How far the sample c is from the start: above it on a line that goes up, below it on a line that goes down.
+-- How far the sample c is from the start: above it where the line counts up, below it where it counts down.
 abbrev pub distanceBy : Direction → ℕ → ℕ → ℕ
 distanceBy Up start c = c - start
 distanceBy Down start c = start - c
 
+-- The same, for a line.
 abbrev pub distance : Line → ℕ → ℕ
 distance line c = distanceBy (line .direction) (line .start) c
 
--- n / d.
+-- Numerator and denominator of a line, as a fraction.
 abbrev pub fraction : Line → Fraction
 fraction line = line .numerator over line .denominator
 

@@ -13,6 +13,7 @@ use Rattle.pixel.specs.declared.Moved.{Moved}
 abbrev pub moveChecks : ℕ → ℕ → List Check
 moveChecks method target = not (isMethod method) refuses 7 ∷ ltb 765 target refuses 9 ∷ []
 
+-- Black.
 abbrev pub black : Pixel
 black = record { r = 0; g = 0; b = 0 }
 
@@ -20,6 +21,7 @@ black = record { r = 0; g = 0; b = 0 }
 abbrev pub refusedMove : ℕ → Moved
 refusedMove n = record { number = n; pixel = black }
 
+-- An accepted one hands back the moved pixel beside 0.
 abbrev pub acceptedMove : Pixel → Moved
 acceptedMove p = record { number = 0; pixel = p }
 

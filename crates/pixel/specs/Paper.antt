@@ -41,6 +41,7 @@ paperIII l f p =
 unfoldable pub paper₂ : Fraction → Fraction → Fraction → Exact
 paper₂ l f p = cond (l ≼ᵇ whole 1) (paperI l f p) (cond (l ≼ᵇ whole 2) (paper₁ l f p) (paperIII l f p))
 
+-- By the method.
 abbrev pub paperBy : Method → Fraction → Fraction → Fraction → Exact
 paperBy NaikMurthy = paper₁
 paperBy YangLee = paper₂

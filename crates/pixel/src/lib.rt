@@ -10,7 +10,8 @@ ghost use Rattle.pixel.specs.Lines.{upFrom, downFrom, naikMurthyLine, ya
 ghost use Rattle.pixel.specs.Move.{movedSample, moved};
 ghost use Rattle.pixel.specs.MoveOne.{moveChecks, refusedMove, movedOne};
 ghost use Rattle.pixel.specs.Strip.{pixelFrom};
-ghost use Rattle.pixel.specs.Inner.{AtMostWhite, Moving, PixelSample, MovingSample};
+ghost use Rattle.pixel.specs.Inner.{AtMostWhite};
+ghost use Rattle.pixel.specs.Moving.{Moving, PixelSample, MovingSample};
 
 // The two methods of source 004: 2.1 and 2.2.
 pub enum Method {
@@ -18,7 +19,7 @@ pub enum Method {
     YangLee,
 }
 
-// A line goes up from black or down from white.
+// How a line counts its samples: up from black, or down from white.
 pub enum Direction {
     Up,
     Down,
@@ -77,7 +78,7 @@ fn scaled_from_white(x: u64, n: u64, d: u64) -> u8
     255 - scaled(x, n, d)
 }
 
-// The line that goes up from `start` by n / d.
+// Counted up from black: 0 at the sample `start`, and n / d more with each step above it.
 fn up_from(start: u64, n: u64, d: u64) -> Line
     ensures { λ r. ⌜ r ≡ upFrom start n d ⌝ }
 {
@@ -89,7 +90,7 @@ fn up_from(start: u64, n: u64, d: u64) -> Line
     }
 }
 
-// The line that goes down from `start` by n / d.
+// Counted down from white: 255 at the sample `start`, and n / d less with each step below it.
 fn down_from(start: u64, n: u64, d: u64) -> Line
     ensures { λ r. ⌜ r ≡ downFrom start n d ⌝ }
 {

@@ -4,7 +4,8 @@ use Prim.Native.Nat.{ℕ, _*_}
 use native.Mathlib.Omega.{arith}
 use borrow.Author.Needs.{needs}
 use Rattle.rounding.specs.Near.{near}
-use Rattle.pixel.specs.Inner.{AtMostWhite, MovingSample}
+use Rattle.pixel.specs.Inner.{AtMostWhite}
+use Rattle.pixel.specs.Moving.{MovingSample}
 use Rattle.pixel.specs.Lines.{lineOf, distanceBy, counted, onLine}
 use Rattle.pixel.specs.declared.Direction.{Direction}
 use Rattle.pixel.specs.declared.Direction.the-variants.{Up, Down}

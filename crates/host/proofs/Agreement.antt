@@ -14,7 +14,7 @@ use Rattle.strip_curve.proofs.Laws.{strip-shape}
 use Rattle.curve_bytes.specs.CurveBytes.{curveLength, curveBytes, curveEntries, keepsCurveRule}
 use Rattle.curve_bytes.proofs.CurveBytes.{length-bytes, read-back, curve-complete}
 use Rattle.shot.specs.Shot.{opened, measured, fixedWith, coloured}
-use Rattle.shot.proofs.OneStrip.{WholeShot, strip-accepted, fix-accepted, is-fixed, curve-is}
+use Rattle.shot.proofs.OneStrip.{measure-accepted, fix-accepted, is-fixed, curve-is}
 use Rattle.shot.proofs.Passed.{measure-passed, fix-passed}
 use Rattle.host.specs.Agreement.{measureAnswer, fixAnswer, Accepted, colourBy, HostFollowsShot}
 use Rattle.host.specs.Host.{CurveCall, curveOutcome, colourOutcome}
@@ -29,26 +29,17 @@ module _ (c : CurveCall) (bytes : Bytes (c .strip)) (e : Accepted c) where
   passed : HostCurveAccepted c
   passed = curve-passed c e
 
-  ok : WholeShot (length (c .strip)) (c .choice)
-  ok =
-      record {
-        known = passed .known;
-        whole = passed .strip .whole;
-        some = passed .strip .some;
-        limit = passed .strip .limit;
-      }
-
   measures : measureAnswer c .number ≡ 0
-  measures = strip-accepted (c .strip) bytes (c .choice) ok
+  measures = measure-accepted (c .strip) bytes (c .choice) (passed .known) (passed .strip)
 
   fixes : fixAnswer c .number ≡ 0
-  fixes = fix-accepted (c .strip) bytes (c .choice) ok
+  fixes = fix-accepted (c .strip) bytes (c .choice) (passed .known) (passed .strip)
 
   fixed : fixAnswer c .shot .fixed ≡ true
-  fixed = is-fixed (c .strip) bytes (c .choice) ok
+  fixed = is-fixed (c .strip) bytes (c .choice) (passed .known) (passed .strip)
 
   same-curve : fixAnswer c .shot .curve ≡ curveOf (c .choice) (c .strip ∷ [])
-  same-curve = curve-is (c .strip) bytes (c .choice) ok
+  same-curve = curve-is (c .strip) bytes (c .choice) (passed .known) (passed .strip)
 
   shape : IsToneCurve (curveOf (c .choice) (c .strip ∷ []))
   shape = strip-shape (c .strip) (passed .strip) bytes (c .choice)

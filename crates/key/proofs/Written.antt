@@ -18,7 +18,9 @@ use Rattle.pixel.specs.declared.Method.{Method}
 use Rattle.pixel.proofs.Paper.{moves-are-within-half}
 use Rattle.pixel.proofs.Strips.{pixel-in-range, intensity-in-range}
 use Rattle.curve.specs.Curve.{EntriesInRange, IsToneCurve}
+use Rattle.colouring.specs.Colouring.{colouredStrip}
 use Rattle.colouring.specs.Written.{Written, WrittenExact, WrittenAccurate, pixelsWritten}
+use Rattle.colouring.proofs.Written.{coloured-pixels-are-exact, coloured-pixels-are-accurate}
 use Rattle.book.specs.Accuracy.{requested, entries}
 use Rattle.book.specs.Book.{Call, Call.opening, Call.measuring, Call.fixing, Call.colouring}
 use Rattle.book.specs.Run.{number, WellFormed}
@@ -26,9 +28,8 @@ use Rattle.book.proofs.Accuracy.{accuracy, step-brings}
 use Rattle.curve_bytes.specs.CurveBytes.{curveEntries}
 use Rattle.host.specs.Host.{colourOutcome}
 use Rattle.host.proofs.Accuracy.{host-accurate}
-use Rattle.still.specs.Agreement.{callsOf}
-use Rattle.still.specs.Still.{fileSamples}
-use Rattle.still.proofs.Agreement.{well-formed}
+use Rattle.still.specs.Still.{fileMethod, fileSamples}
+use Rattle.still.proofs.Agreement.{fileCurve, file-colouring}
 use Rattle.key.specs.Written.{WrittenWidths, CallsKeepWidths, HostKeepsWidths, FilesKeepWidths}
 use Rattle.key.proofs.Widths.{keeps-widths}
 
@@ -87,5 +88,12 @@ host-keeps-widths c bytes w m =
     written-widths w from (accurate .exact w m) (accurate .rules w m)
 
 pub files-keep-widths : FilesKeepWidths
-files-keep-widths file bytes accepted destination same =
-    calls-keep-widths (callsOf (fileSamples file) destination) (well-formed file accepted bytes destination same)
+files-keep-widths file bytes accepted w m =
+    let method = methodOf fileMethod in
+    let curve = fileCurve file in
+    let source = fileSamples file in
+    let made = file-colouring file accepted bytes in
+    let member = made .member w m in
+    let from = from-bytes 0 method curve source (colouredStrip method curve source) (λ e. made .tone .range) (made .bytes) w member in
+    written-widths w from (coloured-pixels-are-exact method curve source w member)
+    (coloured-pixels-are-accurate method curve source (made .tone) (made .bytes) w member)

@@ -1,8 +1,6 @@
 -- The widths of a key for every pixel written (corollaries of demands 2 and 3, as `book`, `host` and `still` state them).
 use mathlib.Core.List.{List}
-use mathlib.Core.Path.{_≡_}
 use Prim.Native.Nat.{ℕ}
-use lib.ListN.{length}
 use Rattle.tables.specs.Table.{_among_}
 use Rattle.pixel.specs.Strip.{Bytes}
 use Rattle.colouring.specs.Written.{Written}
@@ -11,8 +9,8 @@ use Rattle.book.specs.Book.{Call}
 use Rattle.book.specs.Run.{Step, trace, Occurs, WellFormed}
 use Rattle.host.specs.Accuracy.{written as writtenByHost}
 use Rattle.host.specs.Host.{ColourCall}
-use Rattle.still.specs.Agreement.{callsOf}
-use Rattle.still.specs.Still.{fileSamples, IsAccepted}
+use Rattle.still.specs.Agreement.{pixelsOfFile}
+use Rattle.still.specs.Still.{IsAccepted}
 use Rattle.key.specs.Widths.{KeyWidths}
 
 -- The pixel keeps the widths, by its own method and the curve's entry for its intensity.
@@ -29,10 +27,7 @@ CallsKeepWidths =
 abbrev pub HostKeepsWidths : Type 0
 HostKeepsWidths = (c : ColourCall) → Bytes (c .source) → (w : Written) → w among writtenByHost c → WrittenWidths w
 
--- Claim: every pixel written for an accepted file, whose pixels are those of a list of calls (`FilesFollowShots`), keeps them. Proved:
--- proofs/Written.antt, `files-keep-widths`.
+-- Claim: every pixel written for an accepted file keeps them. Proved: proofs/Written.antt, `files-keep-widths`.
 abbrev pub FilesKeepWidths : Type 0
 FilesKeepWidths =
-    (file : List ℕ) → Bytes file → IsAccepted file → (destination : List ℕ) → length destination ≡ length (fileSamples file)
-    → (before : List Step) (t : Step) → Occurs (trace (callsOf (fileSamples file) destination)) before t
-    → (w : Written) → w among writtenInStep t → WrittenWidths w
+    (file : List ℕ) → Bytes file → IsAccepted file → (w : Written) → w among pixelsOfFile file → WrittenWidths w

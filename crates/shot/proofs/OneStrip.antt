@@ -2,7 +2,7 @@
 use mathlib.Core.Path.{_≡_, refl, sym, ap, subst, _∙_}
 use mathlib.Core.Bool.{true}
 use mathlib.Core.List.{List, [], _∷_, append-nil}
-use Prim.Native.Nat.{ℕ, _+_, _/_, _≤_, _<_}
+use Prim.Native.Nat.{ℕ, _+_, _/_, _<_}
 use native.Mathlib.Omega.{arith}
 use borrow.Author.Tests.{le-ltb, eq-eqb, ne-eqb}
 use lib.ListN.{length}
@@ -12,6 +12,7 @@ use Rattle.pixel.proofs.Strips.{whole-means}
 use Rattle.measuring.specs.Histogram.{pixelLimit, pixelsIn}
 use Rattle.curve.specs.Choices.{isChoice}
 use Rattle.curve.specs.Curve.{curveOf}
+use Rattle.strip_curve.proofs.Laws.{StripAccepted}
 use Rattle.colouring.specs.Colouring.{colouredStrip}
 use Rattle.shot.specs.Shot.{opened, withStrip, measured, withCurve, fixedWith, ColourRequest, coloured}
 use Rattle.shot.specs.declared.Answer.{Answer}
@@ -19,14 +20,7 @@ use Rattle.shot.specs.declared.Shot.{Shot}
 use Rattle.shot.proofs.Holds.{Holds, holds-opened, holds-strip, curve-of-strips}
 use Rattle.shot.proofs.Passed.{measure-passed}
 
--- a strip of this length makes a shot that can be fixed by the choice
-pub record WholeShot (strip choice : ℕ) : Type 0 where
-  pub known : isChoice choice ≡ true
-  pub whole : isWhole strip ≡ true
-  pub some : 0 < strip
-  pub limit : strip / 3 ≤ pixelLimit
-
-module _ (strip : List ℕ) (bytes : Bytes strip) (choice : ℕ) (ok : WholeShot (length strip) choice) where
+module _ (strip : List ℕ) (bytes : Bytes strip) (choice : ℕ) (known : isChoice choice ≡ true) (ok : StripAccepted (length strip)) where
   -- what measuring and then fixing hand back
   abbrev measuring-it : Answer
   measuring-it = measured opened strip
@@ -35,20 +29,20 @@ module _ (strip : List ℕ) (bytes : Bytes strip) (choice : ℕ) (ok : WholeShot
   fixing-it = fixedWith (measuring-it .shot) choice
 
   -- measuring accepts the strip
-  pub strip-accepted : measuring-it .number ≡ 0
+  pub measure-accepted : measuring-it .number ≡ 0
   unfolding measured opened
-  strip-accepted = rw (ok .whole, le-ltb pixelLimit (0 + length strip / 3) (omega (arith, ok .limit))) refl
+  measure-accepted = rw (ok .whole, le-ltb pixelLimit (0 + length strip / 3) (omega (arith, ok .limit))) refl
 
   -- and hands back a shot that holds its pixels
   measured-is : measuring-it .shot ≡ withStrip opened strip
   unfolding measured
-  measured-is = simp (eq-eqb (measuring-it .number) 0 strip-accepted)
+  measured-is = simp (eq-eqb (measuring-it .number) 0 measure-accepted)
 
   held : Holds (withStrip opened strip) (pixelsIn (strip ∷ []))
   unfolding measured opened
   held =
       subst (Holds (withStrip opened strip)) (sym (append-nil (pixelsOf strip)))
-      (holds-strip holds-opened strip bytes (measure-passed opened strip strip-accepted))
+      (holds-strip holds-opened strip bytes (measure-passed opened strip measure-accepted))
 
   -- fixing accepts that
   some-pixels : 0 < withStrip opened strip .pixels
@@ -57,7 +51,7 @@ module _ (strip : List ℕ) (bytes : Bytes strip) (choice : ℕ) (ok : WholeShot
 
   fix-accepts : fixedWith (withStrip opened strip) choice .number ≡ 0
   unfolding fixedWith opened
-  fix-accepts = rw (ok .known, ne-eqb (withStrip opened strip .pixels) 0 (λ e. omega (arith, some-pixels))) refl
+  fix-accepts = rw (known, ne-eqb (withStrip opened strip .pixels) 0 (λ e. omega (arith, some-pixels))) refl
 
   pub fix-accepted : fixing-it .number ≡ 0
   fix-accepted = ap (λ (x : Shot). fixedWith x choice .number) measured-is ∙ fix-accepts
@@ -87,4 +81,4 @@ module _ (strip : List ℕ) (bytes : Bytes strip) (choice : ℕ) (ok : WholeShot
         bytes = colouredStrip (methodOf (q .method)) (curveOf choice (strip ∷ [])) (q .source);
       }
   unfolding coloured
-  colour-accepted q known whole same = rw (is-fixed, known, whole, eq-eqb _ _ same, curve-is) refl
+  colour-accepted q method whole same = rw (is-fixed, method, whole, eq-eqb _ _ same, curve-is) refl

@@ -9,15 +9,15 @@ use lib.Seq.{getD-drop, drop-append-seam}
 use Rattle.tables.specs.Table.{_among_}
 use Rattle.pixel.specs.Methods.{methodOf}
 use Rattle.pixel.specs.Strip.{Bytes}
-use Rattle.curve.specs.Curve.{curveOf}
-use Rattle.strip_curve.proofs.Laws.{strip-shape}
-use Rattle.colouring.specs.Written.{Written, WrittenRounded, pixelsWritten}
+use Rattle.curve.specs.Curve.{curveOf, IsToneCurve}
+use Rattle.strip_curve.proofs.Laws.{StripAccepted, strip-shape}
+use Rattle.colouring.specs.Written.{Written, pixelsWritten, colouredPixels}
 use Rattle.colouring.proofs.Written.{coloured-pixels-are-rounded}
 use Rattle.book.specs.Book.{Call, Call.measuring, Call.fixing, Call.colouring}
 use Rattle.book.specs.Run.{trace, number, WellFormed}
 use Rattle.shot.specs.Shot.{opened, measured, fixedWith, ColourRequest, Outcome, coloured}
 use Rattle.book.proofs.Accuracy.{accuracy}
-use Rattle.shot.proofs.OneStrip.{WholeShot, strip-accepted, fix-accepted, colour-accepted}
+use Rattle.shot.proofs.OneStrip.{measure-accepted, fix-accepted, colour-accepted}
 use Rattle.netpbm.specs.Header.{headerOf, valuesOf, headerText}
 use Rattle.netpbm.specs.declared.Header.{Header}
 use Rattle.netpbm.specs.declared.Reading.the-variants.{Accepted}
@@ -26,14 +26,22 @@ use Rattle.still.specs.Agreement.{callsOf, bytesLeft, FollowsShot, Files
 use Rattle.still.specs.Still.{fileChoice, fileMethod, balanced, picture, samplesDue, IsAccepted, fileHeader, fileSamples, answer}
 use Rattle.still.proofs.Answers.{accepted-fits, accepted-shot, accepted-answer, accepted-size, is-accepted}
 
+-- the curve of a file
+abbrev pub fileCurve : List ℕ → List ℕ
+fileCurve file = curveOf fileChoice (fileSamples file ∷ [])
+
+-- what the pixels written for a file are: those of a colouring, by a tone curve, of samples that are bytes
+pub record FileColouring (file : List ℕ) : Type 0 where
+  pub tone : IsToneCurve (fileCurve file)
+  pub bytes : Bytes (fileSamples file)
+  pub member : (w : Written) → w among pixelsOfFile file → w among colouredPixels (methodOf fileMethod) (fileCurve file) (fileSamples file)
+
 module _ (file : List ℕ) (accepted : IsAccepted file) where
   abbrev samples : List ℕ
   samples = fileSamples file
 
-  abbrev shot : WholeShot (length samples) fileChoice
-  shot =
-      let strip = accepted-shot file accepted in
-      record { known = refl; whole = strip .whole; some = strip .some; limit = strip .limit }
+  abbrev shot : StripAccepted (length samples)
+  shot = accepted-shot file accepted
 
   -- its samples are bytes
   samples-are-bytes : Bytes file → Bytes samples
@@ -53,19 +61,19 @@ module _ (file : List ℕ) (accepted : IsAccepted file) where
           bytes = balanced samples;
         }
     unfolding balanced
-    colouring-is = colour-accepted samples sample-bytes fileChoice shot request refl (shot .whole) same
+    colouring-is = colour-accepted samples sample-bytes fileChoice refl shot request refl (shot .whole) same
 
     calls-accepted : map number (trace (callsOf samples destination)) ≡ 0 ∷ 0 ∷ 0 ∷ []
     calls-accepted =
-        ap₂ _∷_ (strip-accepted samples sample-bytes fileChoice shot)
-        (ap₂ _∷_ (fix-accepted samples sample-bytes fileChoice shot)
+        ap₂ _∷_ (measure-accepted samples sample-bytes fileChoice refl shot)
+        (ap₂ _∷_ (fix-accepted samples sample-bytes fileChoice refl shot)
         (ap (λ (o : Outcome). o .answer .number ∷ []) colouring-is))
 
     calls-write : bytesLeft (trace (callsOf samples destination)) ≡ balanced samples
     calls-write = append-nil _ ∙ ap (λ (o : Outcome). o .bytes) colouring-is
 
     -- the calls bring bytes
-    pub well-formed : (c : Call) → c among callsOf samples destination → WellFormed c
+    well-formed : (c : Call) → c among callsOf samples destination → WellFormed c
     well-formed c m =
         ⊎-elim (λ (e : c ≡ measuring samples). subst WellFormed (sym e) sample-bytes)
         (λ m. ⊎-elim (λ (e : c ≡ fixing fileChoice). subst WellFormed (sym e) tt)
@@ -112,17 +120,21 @@ module _ (file : List ℕ) (accepted : IsAccepted file) where
       ap₂ drop (ap (λ (h : Header). h .start) answer-header) (accepted-answer file accepted)
       ∙ drop-append-seam (headerText (fileHeader file .width) (fileHeader file .height)) (balanced samples)
 
-  written-rounded : Bytes file → (w : Written) → w among pixelsOfFile file → WrittenRounded w
+  -- so its pixels are those of a colouring by a tone curve
+  pub file-colouring : Bytes file → FileColouring file
   unfolding balanced
-  written-rounded bytes w m =
-      let method = methodOf fileMethod in
-      let curve = curveOf fileChoice (samples ∷ []) in
+  file-colouring bytes =
       let inside = samples-are-bytes bytes in
-      coloured-pixels-are-rounded method curve samples (strip-shape samples (accepted-shot file accepted) inside fileChoice) inside w
-      (subst (λ (bytes : List ℕ). w among pixelsWritten method curve samples bytes) answer-samples m)
+      record {
+        tone = strip-shape samples shot inside fileChoice;
+        bytes = inside;
+        member = λ w m. subst (λ (written : List ℕ). w among pixelsWritten (methodOf fileMethod) (fileCurve file) samples written) answer-samples m;
+      }
 
 pub files-round-the-paper : FilesRoundThePaper
-files-round-the-paper file bytes accepted = written-rounded file accepted bytes
+files-round-the-paper file bytes accepted w m =
+    let made = file-colouring file accepted bytes in
+    coloured-pixels-are-rounded (methodOf fileMethod) (fileCurve file) (fileSamples file) (made .tone) (made .bytes) w (made .member w m)
 
 pub files-follow-shots : FilesFollowShots
 files-follow-shots file bytes accepted destination same = follows-shot file accepted bytes destination same

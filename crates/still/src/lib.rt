@@ -4,11 +4,10 @@ ghost use Prim.Native.Nat.{_≤_};
 ghost use lib.ListN.{length, replicate};
 ghost use Rattle.refusal.specs.Refusal.{firstOf};
 ghost use Rattle.text.specs.Text.{Writes};
-ghost use Rattle.strip_curve.specs.OneStrip.{stripNumber};
 ghost use Rattle.netpbm.specs.Header.{valuesOf};
-ghost use Rattle.still.specs.Inner.{PictureFits, ValuesFit};
+ghost use Rattle.still.specs.Inner.{OwnCurve, PictureFits, ValuesFit};
 ghost use Rattle.still.specs.Limits.{inputLimit};
-ghost use Rattle.still.specs.Still.{balanced, picture, refusalLine, sampleChecks, fileChecks, outputLimit, outcome};
+ghost use Rattle.still.specs.Still.{picture, refusalLine, sampleChecks, fileChecks, outputLimit, outcome};
 use curve::Choice;
 use netpbm::Reading;
 use pixel::Method;
@@ -70,24 +69,22 @@ fn file_number(reading: Reading, size: usize) -> u32
     samples_number(due, size - header.start)
 }
 
-// Colours the samples of a picture by their own curve: the cube's, and method 2.
-fn balance_samples(source: &[u8], destination: &mut [u8])
-    requires { ⌜ (stripNumber (now source) ≡ 0) × (length (now destination) ≡ length (now source)) ⌝ }
-    ensures { λ _. ⌜ now (destination .exit) ≡ balanced (now (source .entry)) ⌝ }
-{
-    let made = strip_curve::curve_of_strip(Choice::Cube, source);
-    let curve = made.curve;
-    colouring::colour_strip(&curve, Method::YangLee, source, destination);
-}
-
-// Writes a picture at the start of the output: a header, and the samples coloured. Hands back how many bytes it has.
-fn write_picture(width: u32, height: u32, samples: &[u8], output: &mut [u8]) -> usize
+// Writes a picture at the start of the output: a header, and the samples coloured by their own curve and method 2. Hands back how many
+// bytes it has.
+fn write_picture(
+    width: u32,
+    height: u32,
+    curve: &[u16; 766],
+    samples: &[u8],
+    output: &mut [u8],
+) -> usize
     requires { ⌜ PictureFits width height (length (now samples)) (length (now output)) ⌝ }
+    requires { ⌜ OwnCurve (now samples) (now curve) ⌝ }
     ensures { λ r. ⌜ Writes 0 (picture width height (now (samples .entry))) (now (output .entry)) r (now (output .exit)) ⌝ }
 {
     let first = netpbm::write_header(width, height, output);
     let end = first + samples.len();
-    balance_samples(samples, &mut output[first..end]);
+    colouring::colour_strip(curve, Method::YangLee, samples, &mut output[first..end]);
     end
 }
 
@@ -106,5 +103,7 @@ pub fn balance_file(file: &[u8], output: &mut [u8]) -> usize
     }
     let header = netpbm::values_of(reading);
     let start = header.start;
-    write_picture(header.width, header.height, &file[start..], output)
+    let samples = &file[start..];
+    let made = strip_curve::curve_of_strip(Choice::Cube, samples);
+    write_picture(header.width, header.height, &made.curve, samples, output)
 }

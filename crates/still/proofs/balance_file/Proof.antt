@@ -8,12 +8,13 @@ use borrow.Rule.Slice.PartAt.{part-to-end}
 use lib.ListN.{length, take, drop}
 use Rattle.refusal.specs.Refusal.{firstOf}
 use Rattle.text.specs.Text.{Writes}
+use Rattle.strip_curve.proofs.Laws.{StripAccepted, made-curve, strip-accepted}
 use Rattle.netpbm.specs.Header.{valuesOf}
 use Rattle.netpbm.specs.declared.Header.{Header}
 use Rattle.netpbm.specs.declared.Reading.{Reading}
 use Rattle.still.specs.Inner.{PictureFits, ValuesFit}
-use Rattle.still.specs.Still.{picture, refusalLine, fileChecks, fileNumber, IsAccepted, fileHeader}
-use Rattle.still.proofs.Answers.{file-values-fit, accepted-fits, accepted-exact, accepted-answer, refused-answer, short-outcome, answer-outcome}
+use Rattle.still.specs.Still.{picture, refusalLine, fileChecks, fileNumber, IsAccepted, fileHeader, fileSamples}
+use Rattle.still.proofs.Answers.{file-values-fit, accepted-fits, accepted-exact, accepted-shot, accepted-answer, refused-answer, short-outcome, answer-outcome}
 use Rattle.still.proofs.Sizes.{refusal-short, number-small}
 use Rattle.still.proofs.balance_file.Statement.{statement}
 use Rattle.still.proofs.balance_file.Tie as tie
@@ -73,30 +74,50 @@ starts c =
     let file = c .before .before .before .before .before .before .before .args .file .now in
     subst (λ (header : Header). header .start ≤ length file) (sym (header-is c)) (file-values-fit file .starts)
 
-sub-write-picture : tie.Need-sub-write-picture
-sub-write-picture c = starts c
+-- what is taken as the samples
+abbrev samples : tie.After-values-of → List ℕ
+samples c =
+    let file = c .before .before .before .before .before .before .before .args .file .now in
+    take (length file - c .values-of .result .start) (drop (c .values-of .result .start) file)
 
-part-write-picture-start : tie.Need-part-write-picture-start
-part-write-picture-start c = starts c
+-- is the file's
+samples-are : (c : tie.After-values-of) → samples c ≡ fileSamples (c .before .before .before .before .before .before .before .args .file .now)
+samples-are c =
+    let file = c .before .before .before .before .before .before .before .args .file .now in
+    ap (λ (header : Header). take (length file - header .start) (drop (header .start) file)) (header-is c)
+    ∙ part-to-end file (fileHeader file .start)
 
-part-write-picture-end : tie.Need-part-write-picture-end
-part-write-picture-end c = search needs
+sub-samples : tie.Need-sub-samples
+sub-samples c = starts c
+
+part-samples-start : tie.Need-part-samples-start
+part-samples-start c = starts c
+
+part-samples-end : tie.Need-part-samples-end
+part-samples-end c = search needs
+
+curve-of-strip-requires : tie.Need-curve-of-strip-requires
+curve-of-strip-requires c κs = search needs
 
 write-picture-requires : tie.Need-write-picture-requires
 write-picture-requires c κs =
-    let values = c .before .before in
+    let making = c .before .before .before in
+    let values = making .before .before in
     let start = values .before .before .before .before .before .before .before in
     let file = start .args .file .now in
-    let fits = accepted-fits file (accepted (values .before)) in
-    subst (λ (header : Header).
-    PictureFits (header .width) (header .height) (length (take (length file - header .start) (drop (header .start) file))) (length (start .args .output .now)))
-    (sym (header-is values))
-    (record {
-      exact = ap length (part-to-end file (fileHeader file .start)) ∙ accepted-exact file (accepted (values .before));
-      some = fits .some;
-      most = fits .most;
-      room = values .before .before .before .before .if1 .left;
-    })
+    let ok = accepted (values .before) in
+    let fits = accepted-fits file ok in
+    let shot = subst (λ (strip : List ℕ). StripAccepted (length strip)) (sym (samples-are values)) (accepted-shot file ok) in (
+      subst (λ (header : Header). PictureFits (header .width) (header .height) (length (samples values)) (length (start .args .output .now)))
+          (sym (header-is values))
+          (record {
+            exact = ap length (samples-are values) ∙ accepted-exact file ok;
+            some = fits .some;
+            most = fits .most;
+            room = values .before .before .before .before .if1 .left;
+          }),
+      made-curve _ _ (making .curve-of-strip .ensures) (strip-accepted (samples values) shot),
+    )
 
 same-length-2 : tie.Need-same-length-2
 same-length-2 c = search needs
@@ -104,13 +125,13 @@ same-length-2 c = search needs
 returns-3 : tie.Need-returns-3
 returns-3 c =
     let writing = c .before .before in
-    let values = writing .before .before .before in
+    let values = writing .before .before .before .before .before .before in
     let start = values .before .before .before .before .before .before .before in
     let file = start .args .file .now in
     answer-outcome file _ _ _ (values .before .before .before .before .if1 .left)
-    (subst (λ (text : List ℕ). Writes 0 text (start .args .output .now) (writing .write-picture .result) (writing .write-picture .last .1 .1 .1 .0))
-    (ap (λ (header : Header). picture (header .width) (header .height) (take (length file - header .start) (drop (header .start) file))) (header-is values)
-    ∙ ap (picture (fileHeader file .width) (fileHeader file .height)) (part-to-end file (fileHeader file .start))
+    (subst (λ (text : List ℕ). Writes 0 text (start .args .output .now) (writing .write-picture .result) (writing .write-picture .last .1 .1 .1 .1 .0))
+    (ap (λ (header : Header). picture (header .width) (header .height) (samples values)) (header-is values)
+    ∙ ap (picture (fileHeader file .width) (fileHeader file .height)) (samples-are values)
     ∙ sym (accepted-answer file (accepted (values .before))))
     (writing .write-picture .ensures))
 
@@ -125,9 +146,10 @@ balance-file-spec =
     same-length
     returns-2
     values-of-requires
-    sub-write-picture
-    part-write-picture-start
-    part-write-picture-end
+    sub-samples
+    part-samples-start
+    part-samples-end
+    curve-of-strip-requires
     write-picture-requires
     same-length-2
     returns-3)

@@ -1,5 +1,5 @@
 -- Demand 3 (document 00): one claim about any list of opening, measuring, fixing and colouring calls, refused ones included, from a
--- freshly opened shot, whatever they bring.
+-- freshly opened shot, whatever they bring. To be read from the end: `CallsAreAccurate`, then `Accurate`, then `StepAccurate`.
 use mathlib.Core.Path.{_≡_}
 use mathlib.Core.Bool.{_&&_, cond}
 use mathlib.Core.List.{List, [], _∷_, _++_}

@@ -8,7 +8,8 @@ use Rattle.shot.specs.Shot.{opened, measured, fixedWith, ColourRequest, Outcome
 use Rattle.shot.specs.declared.Shot.{Shot}
 use Rattle.book.specs.Book.{Call, Call.opening, Call.measuring, Call.fixing, Call.colouring, Book, emptyBook, bookStep}
 
--- What the program does on a call.
+-- What the program does on a call. The functions of src/lib.rt, which hand their call on to the shot's own, have this for their contracts: so a
+-- list of steps is a list of calls.
 abbrev pub step : Shot → Call → Outcome
 step x opening = record { answer = record { shot = opened; number = 0 }; bytes = [] }
 step x (measuring strip) = record { answer = measured x strip; bytes = [] }

@@ -17,6 +17,7 @@ pub fn open(shot: Shot) -> Answer
     }
 }
 
+// Measures a strip, by the shot's own call.
 pub fn measure(shot: Shot, strip: &[u8]) -> Answer
     requires { ⌜ Reachable shot ⌝ }
     ensures { λ r. ⌜ r ≡ step shot (measuring (now (strip .entry))) .answer ⌝ }
@@ -24,6 +25,7 @@ pub fn measure(shot: Shot, strip: &[u8]) -> Answer
     shot.measure(strip)
 }
 
+// Fixes the shot by a choice, by its own call.
 pub fn fix(shot: Shot, choice: u32) -> Answer
     requires { ⌜ Reachable shot ⌝ }
     ensures { λ r. ⌜ r ≡ step shot (fixing choice) .answer ⌝ }
@@ -31,6 +33,7 @@ pub fn fix(shot: Shot, choice: u32) -> Answer
     shot.fix(choice)
 }
 
+// Colours the source into the destination, by the shot's own call.
 pub fn colour(shot: Shot, method: u32, source: &[u8], destination: &mut [u8]) -> Answer
     requires { ⌜ Reachable shot ⌝ }
     ensures { λ r. ⌜ step shot (colouring (record { method = method; source = now (source .entry); destination = now (destination .entry) })) ≡ record { answer = r; bytes = now (destination .exit) } ⌝ }

@@ -11,12 +11,12 @@ fn colour_by_lines(lines: [FixedLine; 766], source: &[u8], destination: &mut [u8
     requires { ⌜ SameSize (now source) (now destination) ⌝ }
     ensures { λ _. ⌜ now (destination .exit) ≡ alongLines lines (now (source .entry)) ⌝ }
 {
-    // So many bytes are of pixels that go in twos.
+    // The bytes of whole pairs of pixels.
     let pairs = source.len() - source.len() % 6;
     let mut i: usize = 0;
     while i < pairs {
-        // Two are read before one is written: where source and destination start at the same place of a page, reading the first
-        // would wait for the stores that touch its place.
+        // Both are read before either is written. Writing the second also stores into the first one's place, and where source and
+        // destination have the same offset in a page, a later read of the source there would wait for that store.
         let p = pixel::read_pixel(source, i);
         let q = pixel::read_pixel(source, i + 3);
         // A line is read field by field: read whole, it would be one number that is then split.

@@ -1,4 +1,4 @@
--- What the inner functions of this crate require and ensure; their callers show it. No outside call's contract cites these.
+-- What the functions of this crate that no customer calls require and ensure; their callers show it. No outside call's contract cites these.
 use mathlib.Core.Path.{_≡_}
 use mathlib.Core.List.{List}
 use Prim.Native.Nat.{ℕ, _*_, _^_, _≤_, _<_}

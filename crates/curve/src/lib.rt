@@ -102,7 +102,8 @@ fn wide(count: u32) -> u64
     count as u64
 }
 
-// What an intensity's entry counts of the pixels: `below` have a smaller one, `upto` one of at most it.
+// H(s), from H(s − 1) = `below` and H(s) = `upto`: what an entry counts of the pixels, behind a name of its own (`shareCount`). 766 counts
+// of 32 bits stay below 2^42.
 fn share_count(below: u64, upto: u64) -> u64
     requires { ⌜ (below ≤ 2 ^ 42) × (upto ≤ 2 ^ 42) ⌝ }
     ensures { λ r. ⌜ r ≡ shareCount below upto ⌝ }
@@ -110,7 +111,7 @@ fn share_count(below: u64, upto: u64) -> u64
     upto
 }
 
-// What all pixels count.
+// N, behind a name of its own too (`fullCount`).
 fn full_count(pixels: u64) -> u64
     requires { ⌜ pixels ≤ 2 ^ 31 ⌝ }
     ensures { λ r. ⌜ r ≡ fullCount pixels ⌝ }
@@ -192,6 +193,7 @@ pub fn tone_curve(choice: Choice, pixels: u32, counts: &[u32; 766]) -> [u16; 766
     let full = full_count(pixels as u64);
     let shares = shares_of(counts);
     match choice {
+        // N × G(k) nearest to G(765) × H(s)
         Choice::Cube => {
             let cube = targets::table();
             let scaled = scaled_by(full, cube);

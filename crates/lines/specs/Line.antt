@@ -43,21 +43,22 @@ startParts Down = 2 ^ 32 - 1 - half
 abbrev pub inFixedPoint : Line → FixedLine
 inFixedPoint line = lineFrom (line .start) (line .numerator) (line .denominator) (startParts (line .direction))
 
--- What these require: d is one of document 01's divisors, n / d at most 255, and the start a sample.
+-- What holding a line requires: its denominator d is at most 1530 = 2 × 765, as every divisor of a move is, its fraction at most 255, and its
+-- start a sample.
 pub record Holdable (start n d : ℕ) : Type 0 where
   pub positive : 0 < d
   pub divisor : d ≤ 1530
   pub steep : n ≤ 255 * d
   pub byte : start ≤ 255
 
--- The line of the pixels of intensity s, black and white among them, moved to f.
+-- Along this line each sample of a pixel of intensity s, of a black or white one too, goes where the method moves it for the target f.
 abbrev pub IsLineOf : Method → ℕ → ℕ → FixedLine → Type 0
 IsLineOf method s f line = (c : ℕ) → PixelSample s f c → sampleAt line c ≡ movedSample method s f c
 
--- The table of lines at s.
+-- The line at place s of a table of lines.
 abbrev pub lineAt : List FixedLine → ℕ → FixedLine
 lineAt lines s = getD lines s (record { slope = 0; offset = 0 })
 
--- It has the line of every intensity, moved to the curve's entry.
+-- The table has for every intensity a line along which its samples move to the curve's entry.
 abbrev pub LinesOf : Method → List ℕ → List FixedLine → Type 0
 LinesOf method curve lines = (s : ℕ) → s ≤ 765 → IsLineOf method s (at curve s) (lineAt lines s)

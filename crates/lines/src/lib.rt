@@ -8,19 +8,19 @@ use pixel::Direction;
 use pixel::Line;
 use pixel::Method;
 
-// A line has so many parts to a step of a sample, 2^24: a power of two, so that the division is a shift.
+// A step is one code value of a sample. A line counts it in 2^24 parts, so that dividing parts by it is a shift.
 pub const STEP: u32 = 16777216;
 
-// Half a step, by which whole steps are rounded to the nearest.
+// Half a step, 2^23, by which whole steps are rounded to the nearest.
 const HALF: u64 = 8388608;
 
-// Parts are held in 32 bits, which is 256 steps: what goes beyond is a multiple of them and does not change a sample.
+// A period is 2^32 parts, or 256 steps. Parts are held in 32 bits: what goes beyond is a multiple of periods and does not change a sample.
 const PERIOD: u64 = 4294967296;
 
-// The last of them.
+// The last part of a period.
 const LAST_PART: u64 = 4294967295;
 
-// 256 periods: more parts than an offset takes away.
+// 256 periods, 2^40: more than start × slope, which an offset takes away.
 const PERIODS: u64 = 1099511627776;
 
 // The parts of 255 steps.

@@ -10,7 +10,8 @@ use Rattle.pixel.specs.declared.Pixel.{Pixel}
 use Rattle.pixel.specs.declared.Method.{Method}
 use Rattle.pixel.specs.declared.Method.the-variants.{NaikMurthy, YangLee}
 
--- The factor for intensity s and entry f in method 1: f / s for f at most s, (765 − f) / t for f above s.
+-- The factor for intensity s and entry f in method 1: f / s for f at most s, (765 − f) / t for f above s,
+-- with t = 765 − s.
 unfoldable pub factor₁ : ℕ → ℕ → Fraction
 factor₁ s f = cond (leb f s) (f over s) ((765 - f) over (765 - s))
 
@@ -73,7 +74,8 @@ pub record PixelAccurate (t : Tolerance) (k target : Fraction) (p q : Pixel) : T
   -- the channels keep their order and, times the factor, their differences
   pub channels : KeepsDifferences (t .steps) k p q
 
--- The rule on the intensity is for 1 to 764, and for 0 and 765 with their own targets.
+-- Black and white stay for every target, so the rule on the sum holds of them only where the target is their own, 0 or 765. Every tone curve
+-- has these ends.
 pub record OwnEnds (p : Pixel) (f : ℕ) : Type 0 where
   pub black : intensity p ≡ 0 → f ≡ 0
   pub white : intensity p ≡ 765 → f ≡ 765

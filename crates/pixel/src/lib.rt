@@ -25,7 +25,8 @@ pub enum Direction {
     Down,
 }
 
-// A sample at the distance x from the start goes to near(x × numerator / denominator), counted up from black or down from white.
+// The line along which the samples of all pixels of one intensity move to one target: a sample at the distance x from `start` goes to
+// near(x × numerator / denominator), counted up from black or down from white.
 pub struct Line {
     pub direction: Direction,
     pub start: u64,

@@ -11,6 +11,7 @@ pub record Check : Type 0 where
   pub applies : Bool
   pub number : ℕ
 
+-- Where t holds, the call is refused by the number n.
 infix 68 _refuses_
 abbrev pub _refuses_ : Bool → ℕ → Check
 t refuses n = record { applies = t; number = n }

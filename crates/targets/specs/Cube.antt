@@ -19,5 +19,6 @@ middle k = 3 * cubed 255 + 9 * 255 * (k * k) - (2 * cubed k + 9 * (255 * 255) * 
 abbrev pub high : ℕ → ℕ
 high k = 6 * cubed 255 - cubed (765 - k)
 
+-- The target G(k), by these lines.
 unfoldable pub G : ℕ → ℕ
 G k = cond (leb k 255) (low k) (cond (leb k 510) (middle k) (high k))

@@ -21,8 +21,8 @@ fn write_sample(parts: u32, destination: &mut [u8], i: usize)
     destination[i + 3] = (parts / lines::STEP) as u8;
 }
 
-// Writes the second of the two pixels at byte i, moved along its line. The first one's bytes are touched, and so it is written
-// afterwards.
+// Writes the second of the two pixels at byte i, moved along its line, from blue to red: each store also sets the three bytes before its
+// sample. So the first one's bytes are touched too, and it is written afterwards.
 pub fn write_second(line: FixedLine, p: Pixel, destination: &mut [u8], i: usize)
     requires { ⌜ i + 5 < length (now destination) ⌝ }
     ensures { λ _. ⌜ WrittenFrom (now (destination .entry)) (now (destination .exit)) i (i + 3) (bytesOf (eachSample (sampleAt line) p ∷ [])) ⌝ }

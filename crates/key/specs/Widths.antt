@@ -27,6 +27,6 @@ pub record KeyWidths (m : Method) (f : ℕ) (p q : Pixel) : Type 0 where
   -- and each sample is at most half a step from the exact value of the paper's formula
   pub samples : SamplesWithinHalf m f p q
 
--- Claim: every move keeps them, that of black and white to their own targets. Proved: proofs/Widths.antt, `moves-keep-widths`.
+-- Claim: every move keeps the widths, that of black and white to their own targets. Proved: proofs/Widths.antt, `moves-keep-widths`.
 abbrev pub MovesKeepWidths : Type 0
 MovesKeepWidths = (m : Method) (p : Pixel) (f : ℕ) → InRange p → f ≤ 765 → OwnEnds p f → KeyWidths m f p (moved m p f)

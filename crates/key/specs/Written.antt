@@ -17,17 +17,17 @@ use Rattle.key.specs.Widths.{KeyWidths}
 abbrev pub WrittenWidths : Written → Type 0
 WrittenWidths w = KeyWidths (w .method) (w .entry) (w .input) (w .output)
 
--- Claim: every pixel written in any list of calls, of which any may be refused, keeps them. Proved: proofs/Written.antt, `calls-keep-widths`.
+-- Claim: every pixel written in any list of calls, of which any may be refused, keeps the widths. Proved: proofs/Written.antt, `calls-keep-widths`.
 abbrev pub CallsKeepWidths : Type 0
 CallsKeepWidths =
     (calls : List Call) → ((c : Call) → c among calls → WellFormed c)
     → (before : List Step) (t : Step) → Occurs (trace calls) before t → (w : Written) → w among writtenInStep t → WrittenWidths w
 
--- Claim: every pixel that a host colouring writes keeps them. Proved: proofs/Written.antt, `host-keeps-widths`.
+-- Claim: every pixel that a host colouring writes keeps the widths. Proved: proofs/Written.antt, `host-keeps-widths`.
 abbrev pub HostKeepsWidths : Type 0
 HostKeepsWidths = (c : ColourCall) → Bytes (c .source) → (w : Written) → w among writtenByHost c → WrittenWidths w
 
--- Claim: every pixel written for an accepted file keeps them. Proved: proofs/Written.antt, `files-keep-widths`.
+-- Claim: every pixel written for an accepted file keeps the widths. Proved: proofs/Written.antt, `files-keep-widths`.
 abbrev pub FilesKeepWidths : Type 0
 FilesKeepWidths =
     (file : List ℕ) → Bytes file → IsAccepted file → (w : Written) → w among pixelsOfFile file → WrittenWidths w

@@ -8,15 +8,14 @@ use Rattle.shot.specs.Shot.{opened, measured, fixedWith, ColourRequest, Outcome
 use Rattle.shot.specs.declared.Shot.{Shot}
 use Rattle.book.specs.Book.{Call, Call.opening, Call.measuring, Call.fixing, Call.colouring, Book, emptyBook, bookStep}
 
--- What the program does on a call. The functions of src/lib.rt, which hand their call on to the shot's own, have this for their contracts: so a
--- list of steps is a list of calls.
+-- What the program does on a call; the contracts of src/lib.rt's functions, which hand on to the shot's own, are this.
 abbrev pub step : Shot → Call → Outcome
 step x opening = record { answer = record { shot = opened; number = 0 }; bytes = [] }
 step x (measuring strip) = record { answer = measured x strip; bytes = [] }
 step x (fixing choice) = record { answer = fixedWith x choice; bytes = [] }
 step x (colouring q) = coloured x q
 
--- Claim: on each call `step` gives what the contract of the call's function says. Proved: proofs/Run.antt, `steps-follow-contracts`.
+-- Claim: on each call `step` gives the definition that the contract of the call's function cites. Proved: proofs/Run.antt, `steps-follow-contracts`.
 pub record StepsFollowContracts : Type 0 where
   -- `Shot::open` hands back `opened`
   pub opens : (x : Shot) → step x opening .answer .shot ≡ opened

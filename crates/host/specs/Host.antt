@@ -29,8 +29,8 @@ pub record CurveCall : Type 0 where
   pub curve : List ℕ
 
 -- Host curve 4, 10, 2, 5, 3. 4: the curve choice is not 1 or 2. 10: a curve's bytes are not 1,532 long. Then what the strip itself can be
--- refused for: 2, 5, 3.
-abbrev pub curveChecks : (known sized : Bool) → List Check → List Check
+-- refused for: 2, 5, 3 (strip_curve/specs/OneStrip.antt).
+abbrev pub curveChecks : (known sized : Bool) (strip : List Check) → List Check
 curveChecks known sized strip = not known refuses 4 ∷ not sized refuses 10 ∷ strip
 
 -- "One call takes a strip and a choice and writes the curve of that strip taken as a whole shot": the book's curve of this one strip.

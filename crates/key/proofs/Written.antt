@@ -28,8 +28,8 @@ use Rattle.book.proofs.Accuracy.{accuracy, step-brings}
 use Rattle.curve_bytes.specs.CurveBytes.{curveEntries}
 use Rattle.host.specs.Host.{colourOutcome}
 use Rattle.host.proofs.Accuracy.{host-accurate}
-use Rattle.still.specs.Still.{fileMethod, fileSamples}
-use Rattle.still.proofs.Agreement.{fileCurve, file-colouring}
+use Rattle.still.specs.Still.{fileMethod, ownCurve, fileSamples}
+use Rattle.still.proofs.Agreement.{file-colouring}
 use Rattle.key.specs.Written.{WrittenWidths, CallsKeepWidths, HostKeepsWidths, FilesKeepWidths}
 use Rattle.key.proofs.Widths.{keeps-widths}
 
@@ -90,7 +90,7 @@ host-keeps-widths c bytes w m =
 pub files-keep-widths : FilesKeepWidths
 files-keep-widths file bytes accepted w m =
     let method = methodOf fileMethod in
-    let curve = fileCurve file in
+    let curve = ownCurve (fileSamples file) in
     let source = fileSamples file in
     let made = file-colouring file accepted bytes in
     let member = made .member w m in

@@ -37,7 +37,7 @@ factorBy YangLee = factor₂
 unfoldable pub factor : Method → ℕ → ℕ → Fraction
 factor m s f = cond (eqb s 0) (1 over 1) (cond (eqb s 765) (1 over 1) (factorBy m s f))
 
--- How far a written pixel may be from where it should be.
+-- How far a written pixel may be from where it should be, and two of them out of order.
 pub record Tolerance : Type 0 where
   -- the difference of two channels: less than so many full steps
   pub steps : ℕ
@@ -74,7 +74,7 @@ pub record PixelAccurate (t : Tolerance) (k target : Fraction) (p q : Pixel) : T
   -- the channels keep their order and, times the factor, their differences
   pub channels : KeepsDifferences (t .steps) k p q
 
--- Black and white stay for every target, so the rule on the sum holds of them only where the target is their own, 0 or 765. Every tone curve
+-- Black and white stay for every target, so the rule on the sum is claimed of them only where the target is their own, 0 or 765. Every tone curve
 -- has these ends.
 pub record OwnEnds (p : Pixel) (f : ℕ) : Type 0 where
   pub black : intensity p ≡ 0 → f ≡ 0

@@ -9,7 +9,7 @@ use lib.Seq.{getD-drop, drop-append-seam}
 use Rattle.tables.specs.Table.{_among_}
 use Rattle.pixel.specs.Methods.{methodOf}
 use Rattle.pixel.specs.Strip.{Bytes}
-use Rattle.curve.specs.Curve.{curveOf, IsToneCurve}
+use Rattle.curve.specs.Curve.{IsToneCurve}
 use Rattle.strip_curve.proofs.Laws.{StripAccepted, strip-shape}
 use Rattle.colouring.specs.Written.{Written, pixelsWritten, colouredPixels}
 use Rattle.colouring.proofs.Written.{coloured-pixels-are-rounded}
@@ -23,18 +23,14 @@ use Rattle.netpbm.specs.declared.Header.{Header}
 use Rattle.netpbm.specs.declared.Reading.the-variants.{Accepted}
 use Rattle.netpbm.proofs.Grammar.{written-is-read}
 use Rattle.still.specs.Agreement.{callsOf, bytesLeft, FollowsShot, FilesFollowShots, pixelsOfFile, FilesRoundThePaper, AnswersAreFiles}
-use Rattle.still.specs.Still.{fileChoice, fileMethod, balanced, picture, samplesDue, IsAccepted, fileHeader, fileSamples, answer}
+use Rattle.still.specs.Still.{fileChoice, fileMethod, ownCurve, balanced, picture, samplesDue, IsAccepted, fileHeader, fileSamples, answer}
 use Rattle.still.proofs.Answers.{accepted-fits, accepted-shot, accepted-answer, accepted-size, is-accepted}
-
--- the curve of a file
-abbrev pub fileCurve : List ℕ → List ℕ
-fileCurve file = curveOf fileChoice (fileSamples file ∷ [])
 
 -- what the pixels written for a file are: those of a colouring, by a tone curve, of samples that are bytes
 pub record FileColouring (file : List ℕ) : Type 0 where
-  pub tone : IsToneCurve (fileCurve file)
+  pub tone : IsToneCurve (ownCurve (fileSamples file))
   pub bytes : Bytes (fileSamples file)
-  pub member : (w : Written) → w among pixelsOfFile file → w among colouredPixels (methodOf fileMethod) (fileCurve file) (fileSamples file)
+  pub member : (w : Written) → w among pixelsOfFile file → w among colouredPixels (methodOf fileMethod) (ownCurve (fileSamples file)) (fileSamples file)
 
 module _ (file : List ℕ) (accepted : IsAccepted file) where
   abbrev samples : List ℕ
@@ -128,13 +124,13 @@ module _ (file : List ℕ) (accepted : IsAccepted file) where
       record {
         tone = strip-shape samples shot inside fileChoice;
         bytes = inside;
-        member = λ w m. subst (λ (written : List ℕ). w among pixelsWritten (methodOf fileMethod) (fileCurve file) samples written) answer-samples m;
+        member = λ w m. subst (λ (written : List ℕ). w among pixelsWritten (methodOf fileMethod) (ownCurve (fileSamples file)) samples written) answer-samples m;
       }
 
 pub files-round-the-paper : FilesRoundThePaper
 files-round-the-paper file bytes accepted w m =
     let made = file-colouring file accepted bytes in
-    coloured-pixels-are-rounded (methodOf fileMethod) (fileCurve file) (fileSamples file) (made .tone) (made .bytes) w (made .member w m)
+    coloured-pixels-are-rounded (methodOf fileMethod) (ownCurve (fileSamples file)) (fileSamples file) (made .tone) (made .bytes) w (made .member w m)
 
 pub files-follow-shots : FilesFollowShots
 files-follow-shots file bytes accepted destination same = follows-shot file accepted bytes destination same

@@ -1,18 +1,17 @@
 -- Colouring the samples of a picture.
 use mathlib.Core.Path.{_≡_}
 use mathlib.Core.Bool.{true}
-use mathlib.Core.List.{List, [], _∷_}
+use mathlib.Core.List.{List}
 use Prim.Native.Nat.{ℕ, _*_, _%_, _≤_, _<_}
 use native.Mathlib.Omega.{arith}
 use borrow.Author.Tests.{eq-eqb}
 use lib.ListN.{length}
 use Rattle.pixel.specs.Methods.{methodOf}
 use Rattle.pixel.specs.Strip.{isWhole}
-use Rattle.curve.specs.Curve.{curveOf}
 use Rattle.strip_curve.proofs.Laws.{StripAccepted}
 use Rattle.colouring.proofs.Written.{coloured-length}
 use Rattle.netpbm.specs.Header.{areaLimit}
-use Rattle.still.specs.Still.{fileChoice, fileMethod, balanced}
+use Rattle.still.specs.Still.{fileMethod, ownCurve, balanced}
 
 -- three samples to a pixel are whole pixels
 threes-whole : (n : ℕ) → isWhole (3 * n) ≡ true
@@ -26,4 +25,4 @@ whole-shot area samples exact some most =
 -- coloured samples are as many
 pub balanced-length : (samples : List ℕ) → isWhole (length samples) ≡ true → length (balanced samples) ≡ length samples
 unfolding balanced
-balanced-length samples whole = coloured-length (methodOf fileMethod) (curveOf fileChoice (samples ∷ [])) samples whole
+balanced-length samples whole = coloured-length (methodOf fileMethod) (ownCurve samples) samples whole

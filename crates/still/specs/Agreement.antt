@@ -7,13 +7,12 @@ use lib.ListN.{length}
 use Rattle.tables.specs.Table.{_among_}
 use Rattle.pixel.specs.Methods.{methodOf}
 use Rattle.pixel.specs.Strip.{Bytes}
-use Rattle.curve.specs.Curve.{curveOf}
 use Rattle.colouring.specs.Written.{Written, WrittenRounded, pixelsWritten}
 use Rattle.book.specs.Accuracy.{Accurate}
 use Rattle.book.specs.Book.{Call, Call.measuring, Call.fixing, Call.colouring}
 use Rattle.book.specs.Run.{Step, trace, number}
 use Rattle.netpbm.specs.Header.{headerText}
-use Rattle.still.specs.Still.{fileChoice, fileMethod, fileHeader, fileSamples, answer, IsAccepted}
+use Rattle.still.specs.Still.{fileChoice, fileMethod, ownCurve, fileHeader, fileSamples, answer, IsAccepted}
 
 -- The calls that a picture takes, into a destination that may hold anything: a new shot is measured by its samples, fixed, and used to
 -- colour them.
@@ -48,7 +47,7 @@ FilesFollowShots =
 -- The pixels written for a file: those of its samples, by its own curve and method 2, read off the samples of the answer.
 abbrev pub pixelsOfFile : List ℕ → List Written
 pixelsOfFile file =
-    pixelsWritten (methodOf fileMethod) (curveOf fileChoice (fileSamples file ∷ [])) (fileSamples file) (fileSamples (answer file))
+    pixelsWritten (methodOf fileMethod) (ownCurve (fileSamples file)) (fileSamples file) (fileSamples (answer file))
 
 -- Claim: demand 2 for every pixel written for an accepted file: each sample is the exact value of the paper's formula, rounded once. Proved:
 -- proofs/Agreement.antt, `files-round-the-paper`.

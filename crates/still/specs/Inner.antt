@@ -1,11 +1,10 @@
 -- What functions of this crate that no customer calls require; their callers show it. No outside call's contract cites these.
 use mathlib.Core.Path.{_≡_}
-use mathlib.Core.List.{List, [], _∷_}
+use mathlib.Core.List.{List}
 use Prim.Native.Nat.{ℕ, _*_, _≤_, _<_}
-use Rattle.curve.specs.Curve.{curveOf}
 use Rattle.netpbm.specs.Header.{areaLimit}
 use Rattle.netpbm.specs.declared.Header.{Header}
-use Rattle.still.specs.Still.{fileChoice, outputLimit}
+use Rattle.still.specs.Still.{ownCurve, outputLimit}
 
 -- A picture of this width and height has so many samples, is within the limit, and the output has room for it.
 pub record PictureFits (width height samples output : ℕ) : Type 0 where
@@ -16,7 +15,7 @@ pub record PictureFits (width height samples output : ℕ) : Type 0 where
 
 -- The curve is the samples' own, by which `balanced` colours them.
 abbrev pub OwnCurve : List ℕ → List ℕ → Type 0
-OwnCurve samples curve = curve ≡ curveOf fileChoice (samples ∷ [])
+OwnCurve samples curve = curve ≡ ownCurve samples
 
 -- What the values of every header that was read keep in a file of this size, those of refused ones too (all are 0).
 pub record ValuesFit (header : Header) (size : ℕ) : Type 0 where

@@ -23,9 +23,13 @@ fileChoice = 1
 abbrev pub fileMethod : ℕ
 fileMethod = 2
 
--- The samples, coloured by that method and their own curve: the book's curve of this one strip.
+-- The samples' own curve: the book's curve of this one strip.
+abbrev pub ownCurve : List ℕ → List ℕ
+ownCurve samples = curveOf fileChoice (samples ∷ [])
+
+-- The samples, coloured by that method and their own curve.
 unfoldable pub balanced : List ℕ → List ℕ
-balanced samples = colouredStrip (methodOf fileMethod) (curveOf fileChoice (samples ∷ [])) samples
+balanced samples = colouredStrip (methodOf fileMethod) (ownCurve samples) samples
 
 -- A picture that is written: header, then samples.
 unfoldable pub picture : ℕ → ℕ → List ℕ → List ℕ

@@ -6,6 +6,7 @@ use mathlib.Core.Option.{Option, none, some}
 use Prim.Native.Nat.{ℕ}
 use borrow.Author.Tests.{eqb-true}
 use lib.Dec.{eqb}
+use Rattle.refusal.specs.Refusal.{ifAccepted}
 use Rattle.tables.proofs.Cases.{cond-same}
 use Rattle.pixel.specs.Strip.{pixelsOf, Bytes}
 use Rattle.pixel.proofs.Strips.{length-pixels}
@@ -64,7 +65,7 @@ answers-agree r (fixing choice) = simp (r .fixed, r .pixels)
 answers-agree r (colouring q) = simp (r .fixed)
 
 -- one number decides both
-both : {x y : Shot} {b d : Book} (n m : ℕ) → n ≡ m → (n ≡ 0 → HoldsBook y d) → HoldsBook x b → HoldsBook (cond (eqb n 0) y x) (cond (eqb m 0) d b)
+both : {x y : Shot} {b d : Book} (n m : ℕ) → n ≡ m → (n ≡ 0 → HoldsBook y d) → HoldsBook x b → HoldsBook (ifAccepted n y x) (ifAccepted m d b)
 both {x} {y} {b} {d} n m e new old = rw e (go (eqb m 0) refl)
   where
     go : (t : Bool) → eqb m 0 ≡ t → HoldsBook (cond t y x) (cond t d b)

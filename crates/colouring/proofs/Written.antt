@@ -45,7 +45,7 @@ coloured-pixels-are-exact method curve source w m =
     subst WrittenExact (sym e) (coloured-at method curve source i inside)
 
 -- a member of what an accepted call has written shows that it was accepted, by the number 0
-in-accepted : {A : Type 0} (number : ℕ) (new : List A) (a : A) → a among ifAccepted number new [] → (number ≡ 0) × (a among new)
+pub in-accepted : {A : Type 0} (number : ℕ) (new : List A) (a : A) → a among ifAccepted number new [] → (number ≡ 0) × (a among new)
 in-accepted {A} number new a m = go (eqb number 0) (eqb-true number 0) m
   where
     go : (t : Bool) → (t ≡ true → number ≡ 0) → a among cond t new [] → (number ≡ 0) × (a among new)

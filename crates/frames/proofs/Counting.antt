@@ -21,7 +21,7 @@ one-le true = omega arith
 one-le false = omega arith
 
 -- the first i bytes are counted: what is left gives what the whole strip gives
-pub record Counted (strip : List ℕ) (black white before i : ℕ) : Type 0 where
+pub record CountedTo (strip : List ℕ) (black white before i : ℕ) : Type 0 where
   pub within : i ≤ length strip
   pub blacks : black + countOf (pixelsOf (drop i strip)) 0 ≡ countOf (pixelsOf strip) 0
   pub whites : white + countOf (pixelsOf (drop i strip)) 765 ≡ countOf (pixelsOf strip) 765
@@ -30,7 +30,7 @@ pub record Counted (strip : List ℕ) (black white before i : ℕ) : Type 0 wher
   pub fewWhites : white ≤ i
   pub fewBefores : before ≤ i
 
-pub counted-start : (strip : List ℕ) → Counted strip 0 0 0 0
+pub counted-start : (strip : List ℕ) → CountedTo strip 0 0 0 0
 counted-start strip = record {
   within = omega arith;
   blacks = omega arith;
@@ -51,9 +51,9 @@ before-more (suc white) before rest isWhite =
     simp (ne-eqb (suc white + one isWhite) 0 (λ e. omega arith), ne-eqb (suc white) 0 (λ e. omega arith)) (omega arith)
 
 -- a pixel more, with its intensity
-module _ {strip : List ℕ} {black white before i : ℕ} (h : Counted strip black white before i) (there : i + 2 < length strip) where
+module _ {strip : List ℕ} {black white before i : ℕ} (h : CountedTo strip black white before i) (there : i + 2 < length strip) where
   with-pixel : (s : ℕ) → s ≡ intensity (pixelFrom strip i)
-      → Counted strip (black + one (eqb s 0)) (white + one (eqb s 765)) (before + one (eqb (white + one (eqb s 765)) 0)) (i + 3)
+      → CountedTo strip (black + one (eqb s 0)) (white + one (eqb s 765)) (before + one (eqb (white + one (eqb s 765)) 0)) (i + 3)
   with-pixel s is =
       let next = drop-pixel strip i there in
       rw is (record {
@@ -72,7 +72,7 @@ module _ {strip : List ℕ} {black white before i : ℕ} (h : Counted strip blac
   -- and what the tests of it gave
   pub counted-more : (p : Pixel) (s b w f : ℕ) → p ≡ pixelFrom strip i → s ≡ intensity p
       → b ≡ one (eqb s 0) → w ≡ one (eqb s 765) → f ≡ one (eqb (white + w) 0)
-      → Counted strip (black + b) (white + w) (before + f) (i + 3)
+      → CountedTo strip (black + b) (white + w) (before + f) (i + 3)
   counted-more p s b w f ep es eb ew ef = rw (ef, ew, eb) (with-pixel s (es ∙ ap intensity ep))
 
 -- fewer than three bytes make no pixel
@@ -83,7 +83,7 @@ no-pixel (r ∷ g ∷ []) l = refl
 no-pixel (r ∷ g ∷ b ∷ rest) l = absurd (omega arith)
 
 -- all pixels are counted
-pub counted-all : {strip : List ℕ} {black white before i : ℕ} → Counted strip black white before i → length strip < i + 3
+pub counted-all : {strip : List ℕ} {black white before i : ℕ} → CountedTo strip black white before i → length strip < i + 3
     → record { black = black; white = white; before = before } ≡ tonesOf (pixelsOf strip)
 counted-all {strip} {black} {white} {before} {i} h end =
     let none = no-pixel (drop i strip) (omega (arith, length-drop i strip, h .within)) in

@@ -1,13 +1,11 @@
 -- The widths of a key follow from demands 2 and 3, for every pixel written.
 use mathlib.Core.Path.{_≡_, refl, sym, subst}
-use mathlib.Core.Bool.{Bool, true, false, cond}
-use mathlib.Core.List.{List, [], List·Memᴰ·not-nil}
+use mathlib.Core.List.{List, []}
 use mathlib.Core.Option.{Option, none, some}
 use Prim.Native.Nat.{ℕ, _/_, _≤_}
 use native.Mathlib.Omega.{arith}
-use borrow.Author.Tests.{eqb-true}
-use lib.Dec.{eqb}
 use lib.ListN.{length}
+use Rattle.refusal.specs.Refusal.{ifAccepted}
 use Rattle.tables.specs.Table.{_among_}
 use Rattle.tables.proofs.Laws.{tabulate-member}
 use Rattle.pixel.specs.Methods.{methodOf}
@@ -20,7 +18,7 @@ use Rattle.pixel.proofs.Strips.{pixel-in-range, intensity-in-range}
 use Rattle.curve.specs.Curve.{EntriesInRange, IsToneCurve}
 use Rattle.colouring.specs.Colouring.{colouredStrip}
 use Rattle.colouring.specs.Written.{Written, WrittenExact, WrittenAccurate, pixelsWritten}
-use Rattle.colouring.proofs.Written.{coloured-pixels-are-exact, coloured-pixels-are-accurate}
+use Rattle.colouring.proofs.Written.{in-accepted, coloured-pixels-are-exact, coloured-pixels-are-accurate}
 use Rattle.book.specs.Accuracy.{requested, entries}
 use Rattle.book.specs.Book.{Call, Call.opening, Call.measuring, Call.fixing, Call.colouring}
 use Rattle.book.specs.Run.{number, WellFormed}
@@ -40,16 +38,12 @@ record FromBytes (w : Written) : Type 0 where
 
 -- that holds of a pixel written in an accepted call, from bytes and by a curve of targets
 from-bytes : (n : ℕ) (method : Method) (curve source bytes : List ℕ) → (n ≡ 0 → EntriesInRange curve) → Bytes source
-    → (w : Written) → w among cond (eqb n 0) (pixelsWritten method curve source bytes) [] → FromBytes w
-from-bytes n method curve source bytes targets samples w m = go (eqb n 0) refl m
-  where
-    go : (t : Bool) → eqb n 0 ≡ t → w among cond t (pixelsWritten method curve source bytes) [] → FromBytes w
-    go true z m =
-        let (i, inside, e) = tabulate-member _ (length source / 3) w m in
-        let in-range = pixel-in-range source samples i in
-        subst FromBytes (sym e)
-        (record { input = in-range; entry = targets (eqb-true n 0 z) _ (intensity-in-range _ in-range) })
-    go false z m = absurd (List·Memᴰ·not-nil m)
+    → (w : Written) → w among ifAccepted n (pixelsWritten method curve source bytes) [] → FromBytes w
+from-bytes n method curve source bytes targets samples w m =
+    let (accepted, member) = in-accepted n _ w m in
+    let (i, inside, e) = tabulate-member _ (length source / 3) w member in
+    let in-range = pixel-in-range source samples i in
+    subst FromBytes (sym e) (record { input = in-range; entry = targets accepted _ (intensity-in-range _ in-range) })
 
 -- where it is exact and keeps demand 3's rules too, it keeps the widths
 written-widths : (w : Written) → FromBytes w → WrittenExact w → WrittenAccurate w → WrittenWidths w

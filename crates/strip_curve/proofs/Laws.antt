@@ -5,7 +5,6 @@ use mathlib.Core.List.{List, [], _∷_, append-nil}
 use Prim.Native.Nat.{ℕ, _/_, _≤_, _<_}
 use native.Mathlib.Omega.{arith}
 use borrow.Author.Tests.{not-false, ltb-false, eqb-false, le-ltb, eq-eqb, ne-eqb}
-use lib.Dec.{ltb, eqb}
 use lib.ListN.{length, replicate, getD-replicate}
 use Rattle.refusal.proofs.Laws.{none-applies, accepted-leaves}
 use Rattle.tables.specs.Table.{at, _among_}

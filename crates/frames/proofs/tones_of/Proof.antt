@@ -3,12 +3,12 @@ use Prim.Native.Nat.{_-_}
 use native.Mathlib.Omega.{arith}
 use borrow.Author.Needs.{needs}
 use lib.ListN.{length}
-use Rattle.frames.proofs.Counting.{Counted, counted-start, counted-more, counted-all}
+use Rattle.frames.proofs.Counting.{CountedTo, counted-start, counted-more, counted-all}
 use Rattle.frames.proofs.tones_of.Statement.{statement}
 use Rattle.frames.proofs.tones_of.Tie as tie
 
 abbrev Inv-loop : tie.InvT-loop
-Inv-loop strip black₀ white₀ before₀ i₀ black white before i = Counted strip black white before i
+Inv-loop strip black₀ white₀ before₀ i₀ black white before i = CountedTo strip black white before i
 
 abbrev μ-loop : tie.MeasureT-loop
 μ-loop strip black₀ white₀ before₀ i₀ black white before i = length strip - i

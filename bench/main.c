@@ -1,6 +1,6 @@
 /*
  * Times the library's two calls beside the plain C version: on one core, in one run, the two in turns. What it prints are the tables
- * of docs/PERFORMANCE.md. No time is taken before both have given the same bytes. With the argument `check` it stops after that.
+ * of docs/BENCHMARK.md. No time is taken before both have given the same bytes. With the argument `check` it stops after that.
  */
 #define _POSIX_C_SOURCE 200809L
 #include "cube_balance.h"

@@ -14,7 +14,7 @@ from fractions import Fraction
 
 from exact import TARGETS, curve_of, moved, pixels_of
 
-sys.path.insert(0, "docs/figures")
+sys.path.insert(0, "tests/figures")
 import hue as figures  # noqa: E402
 
 DOC = pathlib.Path("docs/ACCURACY.md")

@@ -1,6 +1,6 @@
 """How far hue moves: the bound, and the worst move for each written chroma, from a search of every move.
 
-    python3 docs/figures/hue.py    searches, writes hue.csv and hue.svg beside this script, and prints the table of docs/ACCURACY.md
+    python3 tests/figures/hue.py    searches, writes hue.csv and hue.svg in docs/figures/, and prints the table of docs/ACCURACY.md
 
 The search is worst_hue.c, which this script compiles with cc, beside the exact arithmetic of tests/host/, and runs for both methods at
 once; it takes some ten seconds. Nothing else is needed but Python's standard library. tests/accuracy.py compares both files with what the
@@ -15,8 +15,9 @@ import tempfile
 from fractions import Fraction
 
 HERE = pathlib.Path(__file__).resolve().parent
-CSV, SVG = HERE / "hue.csv", HERE / "hue.svg"
-EXACT = HERE.parent.parent / "tests" / "host"
+FIGURES = HERE.parent.parent / "docs" / "figures"
+CSV, SVG = FIGURES / "hue.csv", FIGURES / "hue.svg"
+EXACT = HERE.parent / "host"
 
 # every three samples that are not all equal, in order, by 766 targets and two methods
 MOVES = (256 * 257 * 258 // 6 - 256) * 766 * 2

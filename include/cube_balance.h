@@ -60,6 +60,16 @@
 extern "C" {
 #endif
 
+/*
+ * The version. MAJOR goes up where a call gives another result for the same input, or where a program has to be changed; MINOR where
+ * something is added; PATCH where neither, as for speed or words. CHANGES.md in the sources says which results change. A program that
+ * depends on exact bytes can test it: #if CUBE_BALANCE_VERSION_MAJOR != 1. No call hands a version back, so keep this header with the
+ * library that bin/library built beside it.
+ */
+#define CUBE_BALANCE_VERSION_MAJOR 1
+#define CUBE_BALANCE_VERSION_MINOR 0
+#define CUBE_BALANCE_VERSION_PATCH 0
+
 /* The bytes of a curve, and the most pixels of which cube_balance_curve makes one. (Colouring has no such limit.) */
 #define CUBE_BALANCE_CURVE_LENGTH 1532
 #define CUBE_BALANCE_PIXEL_LIMIT 16777216

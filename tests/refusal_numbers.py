@@ -13,7 +13,8 @@ HEADER = pathlib.Path("include/cube_balance.h")
 CONST = re.compile(r"^pub const (\w+): u32 = (\d+);$", re.M)
 DEFINED = re.compile(r"^#define CUBE_BALANCE_(\w+) +(\d+)\b", re.M)
 # what the header names by numbers that are no refusals
-OTHERS = {"CURVE_LENGTH", "PIXEL_LIMIT", "CUBE", "EQUALISED", "NAIK_MURTHY", "YANG_LEE", "ACCEPTED"}
+VERSION = {"VERSION_MAJOR", "VERSION_MINOR", "VERSION_PATCH"}
+OTHERS = VERSION | {"CURVE_LENGTH", "PIXEL_LIMIT", "CUBE", "EQUALISED", "NAIK_MURTHY", "YANG_LEE", "ACCEPTED"}
 
 
 def main():

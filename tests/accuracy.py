@@ -1,4 +1,4 @@
-"""The figures of docs/ACCURACY.md are what the program writes and what a search of every move finds, and its claims and proofs are there.
+"""The figures of docs/ACCURACY.md are what the program writes and what a search of every move finds.
 
     python3 -B tests/accuracy.py          compares the document, and the files of docs/figures/, with them
     python3 -B tests/accuracy.py print    prints the tables and sentences that the document has to have
@@ -7,7 +7,6 @@ The skin tone's written pixel is read from what bin/balance writes for samples/p
 """
 
 import pathlib
-import re
 import subprocess
 import sys
 from fractions import Fraction
@@ -184,41 +183,6 @@ def figure_faults(rows):
         yield from row_faults(row)
 
 
-PROVED = "| what | claim | proof |"
-NAMED = re.compile(r"\| .* \| `(\S+/specs/\S+\.antt)`, `(\S+)` \| `(\S+/proofs/\S+\.antt)`, `(\S+)` \|")
-CLAIM = re.compile(r"Proved:\s+(?:-- )?proofs/\S+\.antt,\s+(?:-- )?`([^`]+)`")
-
-
-def has(file, line):
-    """Whether a file of crates/ has such a line."""
-    path = CRATES / file
-    return path.is_file() and re.search(rf"^{line}$", path.read_text(encoding="utf-8"), re.M) is not None
-
-
-def claim_faults(lines):
-    """What is wrong with the document's table of claims and proofs."""
-    start = lines.index(PROVED) + 2 if PROVED in lines else len(lines)
-    rows = lines[start : lines.index("", start)] if start < len(lines) else []
-    if not rows:
-        yield f"{DOC} has no table {PROVED}"
-    proofs = set()
-    for row in rows:
-        found = NAMED.fullmatch(row)
-        if not found:
-            yield f"{DOC}: a row names no claim and proof: {row}"
-            continue
-        spec, claim, file, proof = found.groups()
-        proofs.add(proof)
-        if not has(spec, rf"(?:abbrev pub|pub record) {re.escape(claim)} : Type 0(?: where)?"):
-            yield f"{spec} has no claim {claim}"
-        if not has(file, rf"pub {re.escape(proof)} : {re.escape(claim)}"):
-            yield f"{file} has no proof {proof} of {claim}"
-    for spec in sorted((CRATES / "key" / "specs").glob("*.antt")):
-        for proof in CLAIM.findall(spec.read_text(encoding="utf-8")):
-            if proof not in proofs:
-                yield f"{DOC} does not name {proof} of {spec}"
-
-
 def example_faults(portrait):
     """Whether the proved example is the worked skin tone."""
     text = (CRATES / "key" / "specs" / "Examples.antt").read_text(encoding="utf-8")
@@ -239,7 +203,7 @@ def main():
     lines = [line.strip() for line in text.splitlines()] + [""]
     faults = [fault for table in tables for fault in table_faults(lines, table)]
     faults += [f"{DOC} does not say: {sentence}" for sentence in sentences if sentence not in " ".join(text.split())]
-    faults += [*figure_faults(rows), *claim_faults(lines), *example_faults(portrait)]
+    faults += [*figure_faults(rows), *example_faults(portrait)]
     print("\n".join(faults) if faults else f"accuracy: {figures.MOVES:,} moves below the bound; document and figures as found")
     sys.exit(1 if faults else 0)
 

@@ -347,13 +347,19 @@ def selftest():
     print(f"claims: {len(SNIPPETS) + len(UNREAD) + len(PROOFS)} snippets: ok")
 
 
-def main():
-    selftest()
+def read_specs():
+    """Every file of specs/ by its path: its crate, and what is read of it."""
     files = {}
     for path in sorted(pathlib.Path("crates").glob("*/specs/**/*.antt")):
         crate = pathlib.Path(*path.parts[:2])
         module = ".".join(path.relative_to(crate / "specs").with_suffix("").parts)
         files[path] = crate, File(f"Rattle.{crate.name}.specs.{module}", path.read_text(encoding="utf-8"))
+    return files
+
+
+def main():
+    selftest()
+    files = read_specs()
     claims = claims_of([file for _, file in files.values()])
     wrong, count = 0, 0
     for path, (crate, file) in files.items():
@@ -368,4 +374,5 @@ def main():
     sys.exit(1 if wrong else 0)
 
 
-main()
+if __name__ == "__main__":
+    main()

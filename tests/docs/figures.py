@@ -1,0 +1,127 @@
+"""Figures that one page takes from another, or from the tree, are what they are there.
+
+docs/PERFORMANCE.md and docs/OPEN.md speak of the tables of docs/BENCHMARK.md, docs/DECISIONS.md of the cases of tests/file/, and the newest
+entry of docs/LANDINGS.md says how many crates, must-fail edits and claims there are. So an edit or a claim that goes is noticed.
+"""
+
+import pathlib
+import re
+import sys
+
+sys.path.insert(0, "tests")
+sys.path.insert(0, "tests/file")
+from cases import BY_HAND, BY_TOOLS, CASES  # noqa: E402
+from claims import claims_of, read_specs  # noqa: E402
+from pages import DOCS, read, report, tables  # noqa: E402
+
+CRATES = pathlib.Path("crates")
+
+
+def numbers(rows, place, **cells):
+    """The numbers at a place of the rows that begin with these cells; a cell may be only the start of the row's."""
+    fitting = [row for row in rows if all(row[at].startswith(cell) for at, cell in enumerate(cells.values()))]
+    if not fitting:
+        raise SystemExit(f"docs/BENCHMARK.md has no row of {cells}")
+    return [float(row[place].rstrip(" %")) for row in fitting]
+
+
+def span(values, digits, unit=""):
+    """"least to greatest", or one number where they look the same."""
+    low, high = (f"{value:.{digits}f}" for value in (min(values), max(values)))
+    return f"{low}{unit}" if low == high else f"{low} to {high}{unit}"
+
+
+def jobs_sentences(jobs):
+    """What is said of the jobs, by the medians of both sizes: our time, plain C's, and their ratio."""
+    ours, plain, ratio = 3, 5, 7
+    yield "PERFORMANCE.md", span(numbers(jobs, ratio, frame="", job="colouring"), 1, " times plain C's speed")
+    yield "PERFORMANCE.md", f"| {span(numbers(jobs, ratio, frame='', job='colouring'), 1)} times | met |"
+    yield "PERFORMANCE.md", f"| {span(numbers(jobs, ratio, frame='random', job='measuring'), 2)} times | met |"
+    yield "PERFORMANCE.md", f"| {span(numbers(jobs, ratio, frame='flat', job='measuring'), 2)} times | **not met** |"
+    yield "OPEN.md", f"Measuring flat frames is {span(numbers(jobs, ratio, frame='flat', job='measuring'), 2)} times plain C's speed"
+    flat = {"frame": "flat", "job": "measuring"}
+    yield "PERFORMANCE.md", (
+        f"plain C takes {min(numbers(jobs, plain, **flat)):.2f} ns a pixel on a flat frame, less than on a random one, "
+        f"and the library {min(numbers(jobs, ours, **flat)):.2f}."
+    )
+    smooth = {"frame": "smooth", "job": "measuring"}
+    yield "PERFORMANCE.md", (
+        f"plain C takes {span(numbers(jobs, plain, **smooth), 1)} ns there, and four histograms bring "
+        f"{span(numbers(jobs, ratio, **smooth), 1)} times its speed."
+    )
+
+
+def frame_sentences(frames):
+    """What is said of whole frames of 3840 × 2160, by the medians."""
+    yield "PERFORMANCE.md", f"is measured, fixed and coloured in {span(numbers(frames, 2), 0)} ms on one core"
+    yield "PERFORMANCE.md", f"| {span(numbers(frames, 3), 0)} % of the slot | met |"
+
+
+def size_sentences(sizes):
+    """What is said of cost by size: the medians of one pixel, and the bests of one and of the most."""
+    (curve,), (colour,) = numbers(sizes[:1], 2), numbers(sizes[:1], 4)
+    yield "PERFORMANCE.md", f"| {curve:.1f} µs for a curve, {colour:.1f} µs for a colouring | met |"
+    (curve,), (colour,) = numbers(sizes[:1], 1), numbers(sizes[:1], 3)
+    (most,), (largest_curve,), (largest_colour,) = (numbers(sizes[-1:], place) for place in (0, 1, 3))
+    yield "PERFORMANCE.md", (
+        f"A strip of one pixel takes {curve:.1f} µs for its curve and {colour:.1f} µs for its colouring, one of {int(most):,} pixels "
+        f"{largest_curve / 1000:.1f} ms and {largest_colour / 1000:.1f} ms"
+    )
+    yield "OPEN.md", f"its 766 lines take {colour:.1f} µs"
+
+
+def benchmark_sentences():
+    found = tables(read(DOCS / "BENCHMARK.md"))
+    if [table.head[0] for table in found] != ["frame", "frame", "frame", "frame", "pixels"]:
+        raise SystemExit("docs/BENCHMARK.md has not its five tables")
+    yield from jobs_sentences(found[0].rows + found[2].rows)
+    yield from frame_sentences(found[3].rows)
+    yield from size_sentences(found[4].rows)
+
+
+def test_sentences():
+    """What is said of the tests over files."""
+    by_tools = sum(1 for _ in BY_TOOLS.glob("*.ppm"))
+    yield "DECISIONS.md", f"{CASES} cases, {BY_HAND} of them with the answer written by hand, {by_tools} of the inputs written by"
+
+
+def newest(text):
+    """The newest entry of the landings."""
+    return re.split(r"^## ", text, flags=re.M)[1]
+
+
+def landing_faults(entry):
+    """Whether the newest landing has the counts of the tree."""
+    specs = [file for _, file in read_specs().values()]
+    claims = sum(map(len, claims_of(specs).values()))
+    crates = sum(1 for path in CRATES.iterdir() if path.is_dir())
+    edits = sum(1 for _ in CRATES.glob("*/must-fail/*.edit"))
+    due = f"({crates} crates, {edits} must-fail edits, {claims} claims)"
+    return [] if due in " ".join(entry.split()) else [f"docs/LANDINGS.md: the newest entry has not {due}"]
+
+
+def sentence_faults(sentences):
+    """The sentences that a page has not."""
+    for page, sentence in sentences:
+        if sentence not in " ".join(read(DOCS / page).split()):
+            yield f"docs/{page} does not say: {sentence}"
+
+
+def selftest():
+    rows = [["random", "measuring", "1.0"], ["flat", "colouring, method 1", "2.25"], ["flat", "colouring, method 2", "3.5"]]
+    if numbers(rows, 2, frame="flat", job="colouring") != [2.25, 3.5] or span([2.25, 3.5], 1) != "2.2 to 3.5" or span([2, 2], 0, " ms") != "2 ms":
+        sys.exit("figures.py reads a table wrongly")
+    if not list(sentence_faults([("OPEN.md", "what no page says")])) or not landing_faults("1. Nothing"):
+        sys.exit("figures.py does not find what is wrong")
+    if newest("# L\n\n## 2. b\nc\n\n## 1. a\n") != "2. b\nc\n\n":
+        sys.exit("figures.py takes another entry for the newest")
+
+
+def main():
+    selftest()
+    sentences = [*benchmark_sentences(), *test_sentences()]
+    faults = [*sentence_faults(sentences), *landing_faults(newest(read(DOCS / "LANDINGS.md")))]
+    sys.exit(report("figures", f"{len(sentences)} sentences", faults))
+
+
+main()

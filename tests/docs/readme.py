@@ -1,0 +1,142 @@
+"""README.md's commands do what it says, its map is crates.txt, and what it says is trusted is what rt reports.
+
+The shell blocks are run as they stand, in a folder with links to the project's own; those that need ffmpeg are for tests/video.py. The
+block in Rattle stands, line for line and in order, in the file that README.md takes it from.
+"""
+
+import pathlib
+import re
+import subprocess
+import sys
+import tempfile
+
+sys.path.insert(0, "tests")
+from exact import balanced  # noqa: E402
+from pages import README, SPAN, blocks, read, report, table  # noqa: E402
+
+LINKED = "bin", "include", "examples", "samples", "target"
+ROOT = pathlib.Path.cwd()
+LOGS = pathlib.Path("target/log")
+RATTLE = pathlib.Path("crates/frames/src/main.rt")
+NUMBERS = {"none": 0}
+
+
+def map_faults(rows, listed):
+    """Whether the layers name every crate of crates.txt, in its order."""
+    named = [name for row in rows for name in re.findall(r"`(\w+)`:", row[1])]
+    return [] if named == listed else [f"{README}: the map has {named}, and crates.txt {listed}"]
+
+
+def reported(log):
+    """The C functions whose contracts a program's proof assumes, by rt's report."""
+    found = re.findall(r"^axioms \w+: (.*?) \((\d+) of the \d+ declared\)", log, re.M)
+    return sorted(name.split("::")[-1] for names, _ in found for name in names.split(", "))
+
+
+def said(text, program):
+    """The count and the names that README gives for a program."""
+    found = re.search(rf"{re.escape(program)} (?:rests )?on (\d+|none)\b(?: of these)?((?:,? (?:and )?`\w+`(?! on))*)", text)
+    if not found:
+        return None
+    return int(NUMBERS.get(found.group(1), found.group(1))), sorted(re.findall(r"`(\w+)`", found.group(2)))
+
+
+def trust_faults(text, logs):
+    """Whether what README says of the assumed contracts is what rt reports."""
+    for program, log in logs.items():
+        due = reported(log)
+        if "logic=proved" not in log:
+            yield f"{program}: no report that it is proved"
+        if said(text, program) != (len(due), due):
+            yield f"{README}: {program} is said to rest on {said(text, program)}, and rt reports {due}"
+
+
+def reports():
+    """rt's reports on the programs and on the library for C."""
+    names = {"`balance`": "balance", "`frames`": "frames", "the library for C": "host"}
+    return {said_as: read(LOGS / f"{crate}.out") for said_as, crate in names.items()}
+
+
+def snippet_faults(snippet, source):
+    """Whether each line of a snippet stands in the source, in order."""
+    at = 0
+    lines = [line.strip() for line in source.splitlines()]
+    for line in map(str.strip, snippet.splitlines()):
+        if line not in lines[at:]:
+            return [f"{README}: {RATTLE} has not, or not in this order: {line}"]
+        at = lines.index(line, at) + 1
+    return []
+
+
+def run(block, room):
+    """Runs a shell block in a folder: its exit status, and what it wrote."""
+    done = subprocess.run(["sh", "-eu", "-c", block], cwd=room, stdin=subprocess.DEVNULL, capture_output=True, text=True, check=False)
+    return done.returncode, done.stdout, done.stderr
+
+
+def command_faults(text):
+    """What does not come out as README says."""
+    own = [block for block in blocks(text, "sh") if "ffmpeg" not in block]
+    if len(own) != 3:
+        yield f"{README}: {len(own)} shell blocks without ffmpeg, in place of: balance, refusal, C"
+        return
+    balance, refusal, c = own
+    with tempfile.TemporaryDirectory() as folder:
+        room = pathlib.Path(folder)
+        for name in LINKED:
+            (room / name).symlink_to(ROOT / name)
+        yield from balance_faults(balance, refusal, room)
+        status, out, err = run(c, room)
+        shown = re.search(r"prints `([^`]+)`", text)
+        if status or not shown or out.splitlines()[-1:] != [shown.group(1)]:
+            yield f"{README}: the C example ends with {status}, {out!r}, {err!r}"
+
+
+def balance_faults(balance, refusal, room):
+    """What is wrong with the picture that the first block makes, and with how the second tells it from a refusal."""
+    status, out, err = run(balance, room)
+    picture, written = (ROOT / "samples/portrait.ppm").read_bytes(), room / "balanced.ppm"
+    head = picture.index(b"255\n") + 4
+    if status or out or not written.is_file() or written.read_bytes() != picture[:head] + balanced(picture[head:], 1, 2):
+        yield f"{README}: the sample is not balanced: {status}, {out!r}, {err!r}"
+    if run(refusal, room) != (0, "", ""):
+        yield f"{README}: a picture is taken for a refusal"
+    written.write_bytes(b"refused 12\n")
+    if run(refusal, room) != (0, "", "refused 12\n"):
+        yield f"{README}: a refusal is taken for a picture"
+
+
+def selftest():
+    """What is wrong is found."""
+    log = "axioms libc: libc::read, libc::write (2 of the 50 declared)\nlogic=proved functions=1 axioms=2\n"
+    for text, due in (
+        ("`balance` rests on 2 of these, `read` and `write`, `frames` on 1", 0),
+        ("`balance` rests on 2 of these, `read` and `open`, `frames` on 1", 1),
+        ("`balance` rests on 1 of these, `read`", 1),
+        ("`balance` rests on none", 1),
+    ):
+        if len(found := list(trust_faults(text, {"`balance`": log}))) != due:
+            sys.exit(f"readme.py finds {found} in: {text}")
+    if list(trust_faults("the library for C on none", {"the library for C": "logic=proved functions=4\n"})):
+        sys.exit("readme.py does not read a report without assumptions")
+    rows = [["ground", "`a`: x. `b`: y"], ["top", "`c`: z of `a`"]]
+    if map_faults(rows, ["a", "b", "c"]) or not map_faults(rows, ["a", "b"]) or not map_faults(rows, ["b", "a", "c"]):
+        sys.exit("readme.py does not tell a wrong map from a right one")
+    if snippet_faults("a\n  c\n", "a\nb\nc\n") or not snippet_faults("c\na\n", "a\nb\nc\n"):
+        sys.exit("readme.py does not tell a wrong snippet from a right one")
+
+
+def main():
+    selftest()
+    text = read(README)
+    flowing = " ".join(text.split())
+    listed = re.findall(r"^(\w+):", read(pathlib.Path("crates.txt")), re.M)
+    rattle = blocks(text, "rust")
+    faults = map_faults(table(README, ["layer", "crates"]).rows, listed)
+    faults += trust_faults(flowing, reports())
+    faults += snippet_faults(rattle[0], read(RATTLE)) if len(rattle) == 1 else [f"{README}: not one block in Rattle"]
+    faults += command_faults(text)
+    sys.exit(report("README", f"{len(listed)} crates, {len(blocks(text, 'sh'))} shell blocks", faults))
+
+
+main()

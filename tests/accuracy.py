@@ -11,6 +11,8 @@ import subprocess
 import sys
 from fractions import Fraction
 
+import delivery
+from colour import apart, chroma, hue, width
 from exact import TARGETS, curve_of, moved, pixels_of
 
 sys.path.insert(0, "tests/figures")
@@ -28,21 +30,6 @@ def samples(picture):
     """The width and the samples of a picture with a written header."""
     _, size, _, rest = picture.split(b"\n", 3)
     return int(size.split()[0]), rest
-
-
-def chroma(pixel):
-    return max(pixel) - min(pixel)
-
-
-def hue(pixel):
-    """The hue of a pixel whose greatest sample is red's, and least blue's."""
-    r, g, b = pixel
-    assert r >= g >= b and r > b
-    return Fraction(60 * (g - b), r - b)
-
-
-def width(pixel):
-    return Fraction(60, chroma(pixel))
 
 
 def places(x, count=3):
@@ -79,6 +66,8 @@ class Portrait:
         exact = tuple(255 - factor * (s - c) for c in SKIN)
         r, g, b = SKIN
         r2, g2, b2 = written
+        # so the table's formula is the hue's
+        assert r > g > b and r2 > g2 > b2
         yield "| | number | how far off |"
         yield "|---|---|---|"
         yield f"| source pixel, column {self.place % self.columns}, row {self.place // self.columns} | {numbers(SKIN)} | |"
@@ -104,7 +93,7 @@ class Portrait:
         )
         yield (
             f"| written hue | 60° × ({g2} − {b2}) / {chroma(written)} = {places(hue(written))}° "
-            f"| less than 60° / {chroma(written)} = {places(width(written))}°; here {places(abs(hue(written) - hue(SKIN)))}° |"
+            f"| less than 60° / {chroma(written)} = {places(width(written))}°; here {places(apart(written, SKIN))}° |"
         )
 
     def by_each_method(self):
@@ -118,14 +107,14 @@ class Portrait:
     def sentences(self):
         """What the text says of the two skin tones."""
         other, at = self.balanced[self.pixels.index(DARKER)], self.written
-        apart = abs(hue(at) - hue(other))
-        assert hue(DARKER) == hue(SKIN) and width(at) < apart < width(at) + width(other)
+        off = apart(at, other)
+        assert hue(DARKER) == hue(SKIN) and width(at) < off < width(at) + width(other)
         yield (
             f"So a key from {places(hue(SKIN) - width(at), 2)}° to {places(hue(SKIN) + width(at), 2)}° "
             f"catches every pixel of hue {float(hue(SKIN)):g}° that is written with a chroma of {chroma(at)} or more."
         )
         yield (
-            f"{numbers(DARKER)}, of the same {float(hue(SKIN)):g}°, is written as {numbers(other)}, {places(hue(other))}°: {places(apart)}° "
+            f"{numbers(DARKER)}, of the same {float(hue(SKIN)):g}°, is written as {numbers(other)}, {places(hue(other))}°: {places(off)}° "
             f"from the pixel of the table. A key that was sampled there and opened by {places(width(at))}° alone would lose it."
         )
 
@@ -194,6 +183,7 @@ def example_faults(portrait):
 def main():
     portrait, rows = Portrait(), figures.search()
     tables = [figures.table(rows), list(portrait.skin_tone()), list(portrait.by_each_method()), list(two_below())]
+    tables.append(list(delivery.table(portrait.balanced, portrait.columns)))
     sentences = [*portrait.sentences(), *other_sentences()]
     if sys.argv[1:] == ["print"]:
         print("\n\n".join(["\n".join(table) for table in tables] + sentences))

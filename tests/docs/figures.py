@@ -1,7 +1,8 @@
 """Figures that one page takes from another, or from the tree, are what they are there.
 
-docs/PERFORMANCE.md and docs/OPEN.md speak of the tables of docs/BENCHMARK.md, docs/DECISIONS.md of the cases of tests/file/, and the newest
-entry of docs/LANDINGS.md says how many crates, must-fail edits and claims there are. So an edit or a claim that goes is noticed.
+docs/PERFORMANCE.md and docs/OPEN.md speak of the tables of docs/BENCHMARK.md, README.md of one of docs/ACCURACY.md, docs/DECISIONS.md of
+the cases of tests/file/, and the newest entry of docs/LANDINGS.md says how many crates, must-fail edits and claims there are. So an edit or
+a claim that goes is noticed.
 """
 
 import pathlib
@@ -12,7 +13,7 @@ sys.path.insert(0, "tests")
 sys.path.insert(0, "tests/file")
 from cases import BY_HAND, BY_TOOLS, CASES  # noqa: E402
 from claims import claims_of, read_specs  # noqa: E402
-from pages import DOCS, read, report, tables  # noqa: E402
+from pages import DOCS, read, report, table, tables  # noqa: E402
 
 CRATES = pathlib.Path("crates")
 
@@ -79,6 +80,12 @@ def benchmark_sentences():
     yield from size_sentences(found[4].rows)
 
 
+def delivery_sentences():
+    """What README.md says of the costliest format of docs/ACCURACY.md's table."""
+    form, share, _ = table(DOCS / "ACCURACY.md", ["format"]).rows[0]
+    yield "../README.md", f"{form} alone moves hue beyond the widths above in [{share} of the sample's pixels]"
+
+
 def test_sentences():
     """What is said of the tests over files."""
     by_tools = sum(1 for _ in BY_TOOLS.glob("*.ppm"))
@@ -119,7 +126,7 @@ def selftest():
 
 def main():
     selftest()
-    sentences = [*benchmark_sentences(), *test_sentences()]
+    sentences = [*benchmark_sentences(), *delivery_sentences(), *test_sentences()]
     faults = [*sentence_faults(sentences), *landing_faults(newest(read(DOCS / "LANDINGS.md")))]
     sys.exit(report("figures", f"{len(sentences)} sentences", faults))
 

@@ -45,16 +45,17 @@ def trust_faults(text, logs):
     """Whether what README says of the assumed contracts is what rt reports."""
     for program, log in logs.items():
         due = reported(log)
-        if "logic=proved" not in log:
-            yield f"{program}: no report that it is proved"
+        # only the report of what is linked names a target, and with it all that its proof assumes
+        if not re.search(r"^logic=proved .*\btarget=", log, re.M):
+            yield f"{program}: no report on what is linked; rt check writes it for a program, rt staticlib for the library"
         if said(text, program) != (len(due), due):
             yield f"{README}: {program} is said to rest on {said(text, program)}, and rt reports {due}"
 
 
 def reports():
     """rt's reports on the programs and on the library for C."""
-    names = {"`balance`": "balance", "`frames`": "frames", "the library for C": "host"}
-    return {said_as: read(LOGS / f"{crate}.out") for said_as, crate in names.items()}
+    names = {"`balance`": "balance.out", "`frames`": "frames.out", "the library for C": "host.say"}
+    return {said_as: read(LOGS / name) for said_as, name in names.items()}
 
 
 def snippet_faults(snippet, source):
@@ -108,7 +109,7 @@ def balance_faults(balance, refusal, room):
 
 def selftest():
     """What is wrong is found."""
-    log = "axioms libc: libc::read, libc::write (2 of the 50 declared)\nlogic=proved functions=1 axioms=2\n"
+    log = "axioms libc: libc::read, libc::write (2 of the 50 declared)\nlogic=proved functions=1 axioms=2 target=x86\n"
     for text, due in (
         ("`balance` rests on 2 of these, `read` and `write`, `frames` on 1", 0),
         ("`balance` rests on 2 of these, `read` and `open`, `frames` on 1", 1),
@@ -117,8 +118,11 @@ def selftest():
     ):
         if len(found := list(trust_faults(text, {"`balance`": log}))) != due:
             sys.exit(f"readme.py finds {found} in: {text}")
-    if list(trust_faults("the library for C on none", {"the library for C": "logic=proved functions=4\n"})):
+    none = "the library for C on none", "the library for C"
+    if list(trust_faults(none[0], {none[1]: "logic=proved functions=4 target=x86\n"})):
         sys.exit("readme.py does not read a report without assumptions")
+    if not list(trust_faults(none[0], {none[1]: "logic=proved functions=4\n"})):
+        sys.exit("readme.py takes a crate's report for that of what is linked")
     rows = [["ground", "`a`: x. `b`: y"], ["top", "`c`: z of `a`"]]
     if map_faults(rows, ["a", "b", "c"]) or not map_faults(rows, ["a", "b"]) or not map_faults(rows, ["b", "a", "c"]):
         sys.exit("readme.py does not tell a wrong map from a right one")

@@ -60,7 +60,7 @@ class Portrait:
         """A row to a step: what, the number, how far off it may be and how far it is."""
         s, entry, written = sum(SKIN), self.entry, self.written
         at_most, pixels = sum(sum(pixel) <= s for pixel in self.pixels), len(self.pixels)
-        # method 2, a sum of at most 255 and a target above 255
+        # method 2, an intensity of at most 255 and a target above 255
         assert s <= 255 < entry
         factor = Fraction(765 - entry, 2 * s)
         exact = tuple(255 - factor * (s - c) for c in SKIN)
@@ -71,11 +71,11 @@ class Portrait:
         yield "| | number | how far off |"
         yield "|---|---|---|"
         yield f"| source pixel, column {self.place % self.columns}, row {self.place // self.columns} | {numbers(SKIN)} | |"
-        yield f"| its sum | {r} + {g} + {b} = {s} | |"
+        yield f"| its intensity | {r} + {g} + {b} = {s} | |"
         yield f"| its chroma | {r} − {b} = {chroma(SKIN)} | |"
         yield f"| its hue | 60° × ({g} − {b}) / {chroma(SKIN)} = {float(hue(SKIN)):g}° | |"
         yield f"| pixels of the shot, N | {pixels:,} | |"
-        yield f"| of them with a sum of at most {s}, H({s}) | {at_most:,} | |"
+        yield f"| of them with an intensity of at most {s}, H({s}) | {at_most:,} | |"
         yield f"| what N × G(k) comes nearest to, {TARGETS[765]:,} × H({s}) | {TARGETS[765] * at_most:,} | |"
         for k in entry - 1, entry, entry + 1:
             off = pixels * TARGETS[k] - TARGETS[765] * at_most
@@ -85,7 +85,7 @@ class Portrait:
         yield f"| exact samples, 255 − factor × ({s} − c) | {numbers(exact)} | |"
         offs = ", ".join(signed(c - e) for c, e in zip(written, exact))
         yield f"| written samples | {numbers(written)} | at most 0.5; here {offs} |"
-        yield f"| written sum | {r2} + {g2} + {b2} = {sum(written)} | at most 1 from {entry}; here {abs(sum(written) - entry)} |"
+        yield f"| written intensity | {r2} + {g2} + {b2} = {sum(written)} | at most 1 from {entry}; here {abs(sum(written) - entry)} |"
         off = abs(chroma(written) - factor * chroma(SKIN))
         yield (
             f"| written chroma | {r2} − {b2} = {chroma(written)}, where {places(factor * chroma(SKIN))} is exact "
@@ -114,14 +114,14 @@ class Portrait:
             f"catches every pixel of hue {float(hue(SKIN)):g}° that is written with a chroma of {chroma(at)} or more."
         )
         yield (
-            f"{numbers(DARKER)}, of the same {float(hue(SKIN)):g}°, is written as {numbers(other)}, {places(hue(other))}°: {places(off)}° "
-            f"from the pixel of the table. A key that was sampled there and opened by {places(width(at))}° alone would lose it."
+            f"{numbers(DARKER)}, of the same {float(hue(SKIN)):g}°, is written as {numbers(other)}, {places(hue(other))}°: "
+            f"{places(off)}° from the pixel of the table. A key that was sampled there and opened by {places(width(at))}° alone would lose it."
         )
 
 
 def two_below():
     """Two pixels with one entry, of which the brighter comes out two below the other; by either method."""
-    yield "| source | its sum | entry | written | its sum |"
+    yield "| source | its intensity | entry | written | its intensity |"
     yield "|---|---|---|---|---|"
     for pixel in (1, 2, 3), (1, 1, 5):
         written = moved(1, pixel, 3)
@@ -131,6 +131,10 @@ def two_below():
 
 def other_sentences():
     """What the text says beside that."""
+    at_20, at_60 = (width((chroma, 0, 0)) for chroma in (20, 60))
+    assert (at_20, at_60) == (3, 1)
+    yield "At a written chroma of 60 hue moves by less than one degree; at 20, by less than three."
+    yield "the width is {}° at a chroma of 4, {}° at 3, {}° at 2, and at 1 {}°".format(*(width((c, 0, 0)) for c in (4, 3, 2, 1)))
     yield f"{figures.MOVES:,} moves"
     low, high, at = 18, 30, Fraction(60, 40)
     yield f"a key from {float(low - at):g}° to {float(high + at):g}° loses none of it"

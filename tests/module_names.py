@@ -7,7 +7,7 @@ where it then ends with status 0, that test passes and has tested nothing.
 import pathlib
 import sys
 
-FOLDERS = "tests", "samples"
+FOLDERS = "tests", "samples", "bench", "examples"
 
 
 def shadowing(names):
@@ -19,9 +19,10 @@ def main():
     if shadowing(["numbers", "refusal_numbers"]) != ["numbers"]:
         sys.exit("module_names.py does not know Python's own modules")
     scripts = [path for folder in FOLDERS for path in pathlib.Path(folder).rglob("*.py")]
-    found = shadowing(path.stem for path in scripts)
+    # a folder of scripts is a module too
+    found = shadowing(name for path in scripts for name in (path.stem, path.parent.name))
     for name in found:
-        print(f"{name}.py has the name of one of Python's own modules")
+        print(f"a script or folder has the name of Python's own module {name}")
     print(f"module names: {len(scripts)} scripts, {len(found)} faults")
     sys.exit(1 if found or not scripts else 0)
 

@@ -7,6 +7,7 @@ import sys
 CHANGES = pathlib.Path("CHANGES.md")
 HEADER = pathlib.Path("include/cube_balance.h")
 PARTS = "MAJOR", "MINOR", "PATCH"
+MAJOR = "CUBE_BALANCE_VERSION_MAJOR"
 NUMBER = "(0|[1-9][0-9]*)"
 SECTION = re.compile(r"^## *(.*)$", re.M)
 VERSION = re.compile(rf"{NUMBER}\.{NUMBER}\.{NUMBER}")
@@ -22,14 +23,16 @@ def of_header(text):
     return tuple(int(numbers[0]) for numbers in found) if all(len(numbers) == 1 for numbers in found) else None
 
 
-def faults(changes, header):
+def faults(changes, text):
     """What is wrong with the sections, and with the header beside them."""
-    titles = SECTION.findall(changes)
+    header, titles = of_header(text), SECTION.findall(changes)
     yield from (f"{CHANGES}: '{title}' is no version" for title in titles if not VERSION.fullmatch(title))
     versions = [tuple(map(int, VERSION.fullmatch(title).groups())) for title in titles if VERSION.fullmatch(title)]
     for newer, older in zip(versions, versions[1:]):
         if newer <= older:
             yield f"{CHANGES}: {shown(newer)} stands above {shown(older)}"
+    if header is not None and f"#if {MAJOR} != {header[0]}." not in text:
+        yield f"{HEADER}: its example does not test for {header[0]}"
     if header is None:
         yield f"{HEADER} does not define each part of its version once"
     elif versions[:1] != [header]:
@@ -37,9 +40,9 @@ def faults(changes, header):
 
 
 def main():
-    header = of_header(HEADER.read_text(encoding="utf-8"))
-    found = list(faults(CHANGES.read_text(encoding="utf-8"), header))
-    print("\n".join(found) if found else f"version: {shown(header)} in {HEADER} and {CHANGES}")
+    text = HEADER.read_text(encoding="utf-8")
+    found = list(faults(CHANGES.read_text(encoding="utf-8"), text))
+    print("\n".join(found) if found else f"version: {shown(of_header(text))} in {HEADER} and {CHANGES}")
     sys.exit(1 if found else 0)
 
 

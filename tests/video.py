@@ -1,10 +1,10 @@
-"""The commands of README.md and docs/CALLS.md that need ffmpeg, run as they stand, where ffmpeg is.
+"""The commands of docs/CALLS.md that need ffmpeg, run as they stand, where ffmpeg is.
 
     python3 -B tests/video.py    says that it tried nothing where there is no ffmpeg
 
-Clips are made by ffmpeg: with and without sound, of a rate that is no whole number, with frames left out, of another size than the command's.
-What comes out has to have every frame once, the filter's own bytes, the sound's packets and the rate; where the filter fails, so does the
-command. Beside it the balanced sample goes through the formats that docs/ACCURACY.md tells of.
+Clips are made by ffmpeg: with and without sound, of rates that are no whole numbers, with frames left out, in another container. What comes
+out has to have every frame once, the filter's own bytes, the sound's packets and the rate; where the filter fails, so does the command.
+Beside it the balanced sample goes through the formats that docs/ACCURACY.md tells of.
 """
 
 import pathlib
@@ -13,16 +13,17 @@ import subprocess
 import sys
 import tempfile
 from fractions import Fraction
+from typing import NamedTuple
 
 from delivery import share_beyond
 from exact import balanced, pixels_of
 
 sys.path.insert(0, "tests/docs")
-from pages import DOCS, README, blocks, read  # noqa: E402
+from pages import DOCS, blocks, read  # noqa: E402
 
 ROOT = pathlib.Path.cwd()
-LINKED = "include", "examples", "target"
-HD = 1920, 1080
+PAGE = DOCS / "CALLS.md"
+LINKED = "include", "examples", "target/lib"
 STILL = 4000, 3000
 NTSC = Fraction(30000, 1001)
 TAGGED = "-vf", "scale=out_color_matrix=bt709", "-colorspace", "bt709"
@@ -53,8 +54,13 @@ def sound(file):
 
 def probed(file, entry):
     """What ffprobe says of the first stream of pictures."""
-    words = ["ffprobe", "-v", "error", "-show_entries", f"stream={entry}", "-select_streams", "v:0", "-of", "csv=p=0", file]
-    return subprocess.run(words, stdout=subprocess.PIPE, text=True, check=True).stdout.strip()
+    words = ["ffprobe", "-v", "error", "-show_entries", f"stream={entry}", "-select_streams", "v:0", "-of", "default=nk=1:nw=1", file]
+    # of a transport stream ffprobe tells twice
+    return subprocess.run(words, stdout=subprocess.PIPE, text=True, check=True).stdout.split()[0]
+
+
+def size(file):
+    return int(probed(file, "width")), int(probed(file, "height"))
 
 
 def streams(file):
@@ -62,13 +68,23 @@ def streams(file):
     return sorted(subprocess.run(words, stdout=subprocess.PIPE, text=True, check=True).stdout.split())
 
 
-def make_clip(file, size, frames, rate, with_sound, kept="1"):
-    """A clip in a format that every ffmpeg writes; `kept` says which frames stay."""
-    width, height = size
-    words = ["-y", "-f", "lavfi", "-i", f"testsrc2=size={width}x{height}:rate={rate}"]
-    words += ["-f", "lavfi", "-i", "sine=frequency=440", "-shortest", "-c:a", "aac"] if with_sound else []
-    words += ["-vf", f"select='{kept}'", "-fps_mode", "passthrough", "-frames:v", str(frames)]
-    ffmpeg(*words, "-c:v", "mpeg4", "-q:v", "2", file)
+class Clip(NamedTuple):
+    size: tuple
+    frames: int
+    rate: Fraction = NTSC
+    sounds: int = 0
+    kept: str = "1"  # which frames stay
+    container: str = "mp4"
+
+
+def make(clip, file):
+    """Writes a clip, by an encoder that every ffmpeg has."""
+    width, height = clip.size
+    words = ["-y", "-f", "lavfi", "-i", f"testsrc2=size={width}x{height}:rate={clip.rate}"]
+    words += clip.sounds * ["-f", "lavfi", "-i", "sine=frequency=440"]
+    words += [word for stream in range(clip.sounds + 1) for word in ("-map", str(stream))] + ["-shortest", "-c:a", "aac"]
+    words += ["-vf", f"select='{clip.kept}'", "-fps_mode", "passthrough", "-frames:v", str(clip.frames)]
+    ffmpeg(*words, "-c:v", "mpeg2video", "-q:v", "2", "-f", clip.container, file)
 
 
 def filtered(room, frames, size):
@@ -84,30 +100,36 @@ def run(block, room):
     return done.returncode, done.stdout + done.stderr
 
 
-def try_clip(block, room, case, count, with_sound, **clip):
+def try_clip(block, room, case, clip):
     """A clip goes through the command: frames, bytes, streams, sound and rate."""
     source, result = room / "in.mp4", room / "out.mkv"
     result.unlink(missing_ok=True)
-    make_clip(source, HD, count, NTSC, with_sound, **clip)
+    make(clip, source)
     status, said = run(block, room)
     expect(case, status == 0, f"status {status}: {said}")
     before, after = rgb(source), rgb(result)
-    expect(case, len(before) == 3 * HD[0] * HD[1] * count, f"the clip has {len(before)} bytes")
-    expect(case, after == filtered(room, before, HD), "the frames are not the filter's, each once")
-    expect(case, streams(result) == (["audio", "video"] if with_sound else ["video"]), f"streams {streams(result)}")
-    if with_sound:
+    expect(case, len(before) == 3 * clip.size[0] * clip.size[1] * clip.frames, f"the clip has {len(before)} bytes")
+    expect(case, after == filtered(room, before, clip.size), "the frames are not the filter's, each once")
+    expect(case, size(result) == clip.size, f"the frames have become {size(result)}")
+    expect(case, streams(result) == clip.sounds * ["audio"] + ["video"], f"streams {streams(result)}")
+    if clip.sounds:
         expect(case, sound(source) == sound(result), "the sound is another")
     rates = [Fraction(probed(file, "avg_frame_rate")) for file in (source, result)]
     # Matroska keeps times in milliseconds
     expect(case, abs(rates[0] - rates[1]) < rates[0] / 1000, f"the rate {rates[0]} has become {rates[1]}")
 
 
-def try_failure(block, room):
-    """A clip of another size: the filter meets an end within a frame, and the command fails."""
-    (room / "out.mkv").unlink(missing_ok=True)
-    make_clip(room / "in.mp4", (640, 360), 3, NTSC, False)
-    status, said = run(block, room)
-    expect("another size", status != 0 and "ended after" in said, f"status {status}: {said}")
+def try_failure(clip, still, room):
+    """Where the filter fails at the end, so do the commands."""
+    filter_ = room / "target/rgb24"
+    filter_.unlink()
+    filter_.write_text("#!/bin/sh\ncat\nexit 1\n", encoding="ascii")
+    filter_.chmod(0o755)
+    make(Clip((64, 64), 3), room / "in.mp4")
+    for block, result in (clip, room / "out.mkv"), (still, room / "out.png"):
+        result.unlink()
+        status, said = run(block, room)
+        expect("a filter that fails", status == 1 and result.is_file(), f"status {status}: {said}")
 
 
 def try_still(block, room):
@@ -116,6 +138,7 @@ def try_still(block, room):
     status, said = run(block, room)
     expect("a still", status == 0, f"status {status}: {said}")
     expect("a still", rgb(room / "out.png") == filtered(room, rgb(room / "in.png"), STILL), "the picture is not the filter's")
+    expect("a still", size(room / "out.png") == STILL, f"the picture has become {size(room / 'out.png')}")
 
 
 def try_delivery(room):
@@ -136,21 +159,24 @@ def try_delivery(room):
 
 
 def main():
-    clip, still = blocks(read(README), "bash"), blocks(read(DOCS / "CALLS.md"), "bash")
-    if len(clip) != 1 or len(still) != 1:
-        sys.exit("video: FAILED: README.md and docs/CALLS.md have not one command with ffmpeg each")
+    build, (clip, still) = blocks(read(PAGE), "sh"), blocks(read(PAGE), "bash")
     if not shutil.which("ffmpeg") or not shutil.which("ffprobe"):
         print("video: not tried: ffmpeg is not on this machine")
         return
     with tempfile.TemporaryDirectory() as folder:
         room = pathlib.Path(folder)
+        (room / "target").mkdir()
         for name in LINKED:
             (room / name).symlink_to(ROOT / name)
-        try_clip(clip[0], room, "a clip with sound", 6, True)
-        try_clip(clip[0], room, "a clip without sound", 2, False)
-        try_clip(clip[0], room, "a clip with frames left out", 4, False, kept="not(eq(mod(n,3),1))")
-        try_failure(clip[0], room)
-        try_still(still[0], room)
+        status, said = run("".join(build), room)
+        expect("building the filter", status == 0, f"status {status}: {said}")
+        try_clip(clip, room, "a clip with sound", Clip((1920, 1080), 6, sounds=1))
+        try_clip(clip, room, "a clip with two sounds", Clip((720, 576), 3, sounds=2))
+        try_clip(clip, room, "a clip without sound", Clip((640, 360), 2, Fraction(25)))
+        try_clip(clip, room, "a clip with frames left out", Clip((320, 240), 4, kept="not(eq(mod(n,3),1))"))
+        try_clip(clip, room, "a clip in a transport stream", Clip((352, 288), 5, Fraction(24000, 1001), container="mpegts"))
+        try_still(still, room)
+        try_failure(clip, still, room)
         try_delivery(room)
     print(f"video: {cases} comparisons: ok")
 

@@ -1,14 +1,15 @@
 """docs/CALLS.md has the numbers, names and orders of the code, and docs/RULES.md those of the book.
 
-The table of numbers is compared with the names of the crate `refusal` and with the lists of checks that the contracts cite; the C
-header's two orders and the book's are compared with the same lists. Limits that the pages give in figures are those of specs/.
+The table of numbers is compared with names and comments of the crate `refusal` and with the lists of checks that the contracts cite; the C
+header's two orders and the book's are compared with the same lists. Choices, methods and the parameters of the calls for C are the
+header's. Limits that the pages give in figures are those of specs/.
 """
 
 import pathlib
 import re
 import sys
 
-from pages import DOCS, read, report, table
+from pages import DOCS, README, SPAN, read, report, table
 
 CRATES = pathlib.Path("crates")
 CALLS, RULES, PROMISES = DOCS / "CALLS.md", DOCS / "RULES.md", DOCS / "PROMISES.md"
@@ -27,7 +28,7 @@ ORDINALS = ["1st", "2nd", "3rd", "4th", "5th"]
 # limits: the file and the definition, and the pages that give it in figures
 LIMITS = {
     "pixelLimit": ("measuring/specs/Histogram.antt", [CALLS, RULES]),
-    "areaLimit": ("netpbm/specs/Header.antt", [CALLS, RULES]),
+    "areaLimit": ("netpbm/specs/Header.antt", [CALLS, RULES, README]),
     "headerLimit": ("netpbm/specs/Header.antt", [RULES]),
     "curveLength": ("curve_bytes/specs/CurveBytes.antt", [CALLS, RULES]),
 }
@@ -61,12 +62,33 @@ def table_orders(numbers):
     return orders, faults
 
 
+def limits():
+    """The limits, in figures."""
+    found = {name: re.search(rf"^{name} = (\d+)$", read(CRATES / file), re.M) for name, (file, _) in LIMITS.items()}
+    if None in found.values():
+        raise SystemExit(f"specs/ do not give in figures: {[name for name in found if not found[name]]}")
+    return {name: int(value.group(1)) for name, value in found.items()}
+
+
+def named():
+    """The numbers of the crate `refusal`: name, number, and what its comment says, with the limits in figures."""
+    values = limits()
+    for words, name, number in re.findall(r"^// (.+)\.\npub const (\w+): u32 = (\d+);$", read(CRATES / "refusal/src/lib.rt"), re.M):
+        limit = values["areaLimit" if name == "AREA_OUT_OF_RANGE" else "pixelLimit"]
+        yield number, name, words[0].lower() + words[1:].replace("the limit", f"{limit:,}")
+
+
 def number_faults():
     """What is wrong with the table of numbers."""
     numbers = table(CALLS, ["number", "name"])
-    named = re.findall(r"^pub const (\w+): u32 = (\d+);$", read(CRATES / "refusal/src/lib.rt"), re.M)
-    if [(row[1].strip("`"), row[0]) for row in numbers.rows] != named:
-        yield f"{CALLS}: numbers and names are not those of the crate refusal"
+    due = list(named())
+    if len(due) != read(CRATES / "refusal/src/lib.rt").count("pub const ") or not due:
+        yield "crates/refusal/src/lib.rt: a number without a comment of one sentence"
+    for row, wanted in zip(numbers.rows, due):
+        if (row[0], row[1].strip("`"), row[2]) != wanted:
+            yield f"{CALLS}: {row[:3]}, and the crate refusal has {wanted}"
+    if len(numbers.rows) != len(due):
+        yield f"{CALLS}: {len(numbers.rows)} numbers, and the crate refusal has {len(due)}"
     orders, faults = table_orders(numbers)
     yield from faults
     if orders.keys() != CHECKS.keys():
@@ -84,9 +106,35 @@ def header_faults():
             yield f"{HEADER}: {call} has another order than its checks {order_of(call)}"
 
 
+def parameter_faults():
+    """What is wrong with the parameters that the page gives for the calls for C."""
+    prototypes = dict(re.findall(r"^uint32_t (\w+)\(([^)]*)\);$", read(HEADER), re.M))
+    calls = [SPAN.findall(row[0])[0][1] for row in table(CALLS, ["call", "does"], last=True).rows]
+    due = [f"{name}({', '.join(part.split()[-1].strip('*') for part in parts.split(','))})" for name, parts in prototypes.items()]
+    return [] if calls == due else [f"{CALLS}: the calls for C are {calls}, and the header has {due}"]
+
+
+def word_faults():
+    """Whether the pages number choices and methods as the header does."""
+    number = dict(re.findall(r"^#define CUBE_BALANCE_(\w+) (\d)\b", read(HEADER), re.M))
+    cube, equalised, first, second = (number[name] for name in ("CUBE", "EQUALISED", "NAIK_MURTHY", "YANG_LEE"))
+    for page, words in (
+        (CALLS, f"by choice {cube}, the cube, or {equalised}, equalised"),
+        (CALLS, f"by method {first}, Naik and Murthy's, or {second}, Yang and Lee's"),
+        (RULES, f"| {cube}, the cube |"),
+        (RULES, f"| {equalised}, equalised |"),
+        (RULES, f"Method {first} is Naik and Murthy's, method {second} Yang and Lee's."),
+    ):
+        if words not in " ".join(read(page).split()):
+            yield f"{page} does not say: {words}"
+
+
 def book_faults():
     """What is wrong with the orders that the rules give for the book."""
-    for row in table(RULES, ["call", "refused"]).rows:
+    rows = table(RULES, ["call", "refused"]).rows
+    if [row[0] for row in rows] != ["open", "measure", "fix", "colour"]:
+        yield f"{RULES}: the book has not the four calls"
+    for row in rows:
         call, refused = row[0], [int(number) for number in re.findall(r"(?:^|; )(\d+) ", row[1])]
         if refused != (order_of(call) if call in CHECKS else []):
             yield f"{RULES}: the book refuses {call} by {refused}"
@@ -94,13 +142,7 @@ def book_faults():
 
 def limit_faults():
     """The limits that a page does not give."""
-    values = {}
-    for name, (file, _) in LIMITS.items():
-        found = re.search(rf"^{name} = (\d+)$", read(CRATES / file), re.M)
-        if not found:
-            yield f"{file} has no {name} in figures"
-            return
-        values[name] = int(found.group(1))
+    values = limits()
     # the largest file that is accepted, and what is read of a longer one
     largest = values["headerLimit"] + 3 * values["areaLimit"]
     due = [(values[name], page) for name, (_, pages) in LIMITS.items() for page in pages]
@@ -122,7 +164,7 @@ def selftest():
 
 def main():
     selftest()
-    faults = [*number_faults(), *header_faults(), *book_faults(), *limit_faults()]
+    faults = [*number_faults(), *header_faults(), *parameter_faults(), *word_faults(), *book_faults(), *limit_faults()]
     sys.exit(report("calls", f"{len(CHECKS)} calls", faults))
 
 

@@ -1,8 +1,8 @@
 """Figures that one page takes from another, or from the tree, are what they are there.
 
-docs/PERFORMANCE.md and docs/OPEN.md speak of the tables of docs/BENCHMARK.md, README.md of one of docs/ACCURACY.md, docs/DECISIONS.md of
-the cases of tests/file/, and the newest entry of docs/LANDINGS.md says how many crates, must-fail edits and claims there are. So an edit or
-a claim that goes is noticed.
+The accuracy rule's tolerance and the hue bound are those of specs/. docs/PERFORMANCE.md and docs/OPEN.md speak of the tables of
+docs/BENCHMARK.md, README.md of one of these and of one of docs/ACCURACY.md, docs/DECISIONS.md of the cases of tests/file/, and the newest
+entry of docs/LANDINGS.md says how many crates, must-fail edits and claims there are. So an edit or a claim that goes is noticed.
 """
 
 import pathlib
@@ -13,9 +13,10 @@ sys.path.insert(0, "tests")
 sys.path.insert(0, "tests/file")
 from cases import BY_HAND, BY_TOOLS, CASES  # noqa: E402
 from claims import claims_of, read_specs  # noqa: E402
-from pages import DOCS, read, report, table, tables  # noqa: E402
+from pages import DOCS, all_pages, read, report, table, tables  # noqa: E402
 
 CRATES = pathlib.Path("crates")
+HEADER = "../include/cube_balance.h"
 
 
 def numbers(rows, place, **cells):
@@ -55,6 +56,7 @@ def jobs_sentences(jobs):
 def frame_sentences(frames):
     """What is said of whole frames of 3840 × 2160, by the medians."""
     yield "PERFORMANCE.md", f"is measured, fixed and coloured in {span(numbers(frames, 2), 0)} ms on one core"
+    yield "../README.md", f"a 3840 × 2160 frame takes {span(numbers(frames, 2), 0)} ms on one core"
     yield "PERFORMANCE.md", f"| {span(numbers(frames, 3), 0)} % of the slot | met |"
 
 
@@ -80,6 +82,33 @@ def benchmark_sentences():
     yield from size_sentences(found[4].rows)
 
 
+def tolerance_sentences():
+    """What the pages say of the accuracy rule's tolerance and of the hue bound, by the definitions of specs/."""
+    accuracy, hue = read(CRATES / "pixel/specs/Accuracy.antt"), read(CRATES / "key/specs/Hue.antt")
+    mission = re.search(r"^mission = record \{ steps = (\d+); sum = whole (\d+); below = (\d+) \}$", accuracy, re.M)
+    bound = re.search(r"^hueBound n c = \((\d+) \* n\) over c$", hue, re.M)
+    if not mission or not bound:
+        raise SystemExit("specs/ do not give the tolerance, or the hue bound, in figures")
+    steps, most, below = map(int, mission.groups())
+    degrees = int(bound.group(1)) * steps
+    words = {1: "one", 2: "two"}
+    yield "RULES.md", f"3. The intensity is at most {most} from the curve's entry for the input intensity."
+    yield "RULES.md", f"4. Two channels differ by their input difference times the factor, give or take less than {steps}."
+    yield "RULES.md", f"comes out with an intensity at most {below} below the other's."
+    yield "PROMISES.md", f"| 3. the intensity is at most {most} from the entry |"
+    yield "PROMISES.md", f"give or take less than {steps} |"
+    yield "PROMISES.md", f"is at most {below} below the other |"
+    yield "../README.md", f"moves by less than {degrees}° divided by the written pixel's chroma"
+    yield "../README.md", f"by less than one degree at a chroma of {degrees};"
+    yield "../README.md", f"**chroma** is less than {steps} code value from a factor times the source's;"
+    yield "../README.md", f"is at most {most} from the tone curve's entry for the source pixel."
+    yield "ACCURACY.md", f"| the hue of the source pixel | less than {degrees}° / written chroma |"
+    yield "ACCURACY.md", f"| the factor times the chroma of the source pixel | less than {steps} code value |"
+    yield "ACCURACY.md", f"| the curve's entry for the source pixel's intensity | at most {most}, a third"
+    yield HEADER, f"the intensity is at most {words.get(most, most)} from the curve's entry for the input intensity;"
+    yield HEADER, f"has an intensity at most {words.get(below, below)} below the other's."
+
+
 def delivery_sentences():
     """What README.md says of the costliest format of docs/ACCURACY.md's table."""
     form, share, _ = table(DOCS / "ACCURACY.md", ["format"]).rows[0]
@@ -98,27 +127,37 @@ def newest(text):
 
 
 def landing_faults(entry):
-    """Whether the newest landing has the counts of the tree."""
+    """Whether the newest landing has the counts of the tree after it."""
     specs = [file for _, file in read_specs().values()]
     claims = sum(map(len, claims_of(specs).values()))
     crates = sum(1 for path in CRATES.iterdir() if path.is_dir())
     edits = sum(1 for _ in CRATES.glob("*/must-fail/*.edit"))
     due = f"({crates} crates, {edits} must-fail edits, {claims} claims)"
-    return [] if due in " ".join(entry.split()) else [f"docs/LANDINGS.md: the newest entry has not {due}"]
+    _, _, after = " ".join(entry.split()).partition(" After: ")
+    return [] if due in after.partition("**")[0] else [f"docs/LANDINGS.md: the newest entry has not, after it: {due}"]
+
+
+def unfinished_faults():
+    """What was to be filled in."""
+    return [f"{path}: {found}" for path in all_pages() for found in re.findall(r"@@\w*@*|\b(?:TODO|FIXME|XXX)\b", read(path))]
 
 
 def sentence_faults(sentences):
     """The sentences that a page has not."""
     for page, sentence in sentences:
-        if sentence not in " ".join(read(DOCS / page).split()):
+        # a comment's lines begin with a star
+        if sentence not in " ".join(read(DOCS / page).replace("\n * ", "\n").split()):
             yield f"docs/{page} does not say: {sentence}"
 
 
 def selftest():
     rows = [["random", "measuring", "1.0"], ["flat", "colouring, method 1", "2.25"], ["flat", "colouring, method 2", "3.5"]]
-    if numbers(rows, 2, frame="flat", job="colouring") != [2.25, 3.5] or span([2.25, 3.5], 1) != "2.2 to 3.5" or span([2, 2], 0, " ms") != "2 ms":
+    if numbers(rows, 2, frame="flat", job="colouring") != [2.25, 3.5]:
+        sys.exit("figures.py finds other rows of a table")
+    if span([2.25, 3.5], 1) != "2.2 to 3.5" or span([2, 2], 0, " ms") != "2 ms":
         sys.exit("figures.py reads a table wrongly")
-    if not list(sentence_faults([("OPEN.md", "what no page says")])) or not landing_faults("1. Nothing"):
+    before = "Before: (22 crates, 132 must-fail edits, 59 claims). After: (1 crates, 1 must-fail edits, 1 claims)"
+    if not list(sentence_faults([("OPEN.md", "what no page says")])) or not landing_faults("1. Nothing") or not landing_faults(before):
         sys.exit("figures.py does not find what is wrong")
     if newest("# L\n\n## 2. b\nc\n\n## 1. a\n") != "2. b\nc\n\n":
         sys.exit("figures.py takes another entry for the newest")
@@ -126,8 +165,8 @@ def selftest():
 
 def main():
     selftest()
-    sentences = [*benchmark_sentences(), *delivery_sentences(), *test_sentences()]
-    faults = [*sentence_faults(sentences), *landing_faults(newest(read(DOCS / "LANDINGS.md")))]
+    sentences = [*benchmark_sentences(), *tolerance_sentences(), *delivery_sentences(), *test_sentences()]
+    faults = [*sentence_faults(sentences), *landing_faults(newest(read(DOCS / "LANDINGS.md"))), *unfinished_faults()]
     sys.exit(report("figures", f"{len(sentences)} sentences", faults))
 
 

@@ -1,8 +1,8 @@
 """Every link of the pages leads somewhere, every path and every name in them is there, and they stand by themselves.
 
 A link within the project has to lead to a file, and its anchor to a heading. What stands in backquotes and looks like a path has to be
-there, from the project's root, from crates/, from a crate or from docs/. What looks like a name has to stand as a word in some file that is no page. The
-customer's papers are cited only where it is said what they are.
+there, from the project's root, from crates/, from a crate or from docs/. What looks like a name has to stand as a word in some file that
+is no page. The customer's papers are cited only where it is said what they are.
 """
 
 import pathlib
@@ -91,10 +91,9 @@ def name_faults(path, known):
 
 
 def paper_faults(path):
-    """The lines that cite a paper which the reader does not have."""
-    for number, line in enumerate(prose(read(path)), 1):
-        if found := PAPERS.search(line):
-            yield f"{path}:{number}: cites {found.group()}, and does not say what it is"
+    """The papers that are cited, which the reader does not have; a citation may run over lines."""
+    for found in PAPERS.finditer(" ".join(" ".join(prose(read(path))).split())):
+        yield f"{path}: cites {found.group()}, and does not say what it is"
 
 
 def selftest():
@@ -115,6 +114,8 @@ def selftest():
         ("`far n d`, `book::close(shot)`, `StepAccurate.number`", lambda path: name_faults(path, known), 3),
         ("as document 01 has it", paper_faults, 1),
         ("as the rules have it\n\n    document 01\n", paper_faults, 0),
+        ("- a\n  - b\n    c [d](none.md)\n", link_faults, 1),
+        ("as document\n01 has it", paper_faults, 1),
     ):
         sample.write_text(text, encoding="utf-8")
         found = list(check(sample))

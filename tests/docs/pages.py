@@ -21,20 +21,14 @@ def read(path):
     return path.read_text(encoding="utf-8")
 
 
-def is_block(line):
-    """Whether a line is of a block that is set in by four spaces. (Lists of these pages are set in by less.)"""
-    return line.startswith("    ") and line.strip() != ""
-
-
 def prose(text):
-    """The lines outside code blocks, and nothing for those inside."""
+    """The lines outside code blocks, and nothing for those inside: between fences, or set in by four spaces after an empty line."""
     fenced, kept = False, []
     for line in text.splitlines():
-        if FENCE.match(line):
-            fenced = not fenced
-            kept.append("")
-        else:
-            kept.append("" if fenced or is_block(line) else line)
+        fence = FENCE.match(line)
+        fenced ^= bool(fence)
+        set_in = line.startswith("    ") and (not kept or not kept[-1].strip())
+        kept.append("" if fence or fenced or set_in else line)
     return kept
 
 
@@ -94,12 +88,12 @@ def tables(text):
     return found
 
 
-def table(path, first):
-    """The one table of a page whose head begins with these cells."""
+def table(path, first, last=False):
+    """The one table of a page whose head begins with these cells; or, of several, the last."""
     fitting = [one for one in tables(read(path)) if one.head[: len(first)] == first]
-    if len(fitting) != 1 or not fitting[0].rows:
+    if not fitting or not fitting[-1].rows or len(fitting) > 1 and not last:
         raise SystemExit(f"{path}: {len(fitting)} tables with the head {first}, in place of one with rows")
-    return fitting[0]
+    return fitting[-1]
 
 
 def report(name, count, faults):

@@ -1,7 +1,7 @@
 """README.md's commands do what it says, its map is crates.txt, and what it says is trusted is what rt reports.
 
-The shell blocks are run as they stand, in a folder with links to the project's own; those that need ffmpeg are for tests/video.py. The
-block in Rattle stands, line for line and in order, in the file that README.md takes it from.
+The shell blocks are run as they stand, in a folder with links to the project's own. The block in Rattle stands, but for comments, in the
+file that README.md takes it from. The tools that the gate needs are those that it asks for.
 """
 
 import pathlib
@@ -18,6 +18,7 @@ LINKED = "bin", "include", "examples", "samples", "target"
 ROOT = pathlib.Path.cwd()
 LOGS = pathlib.Path("target/log")
 RATTLE = pathlib.Path("crates/frames/src/main.rt")
+GATE = pathlib.Path(".ci/run")
 NUMBERS = {"none": 0}
 
 
@@ -59,14 +60,20 @@ def reports():
 
 
 def snippet_faults(snippet, source):
-    """Whether each line of a snippet stands in the source, in order."""
-    at = 0
-    lines = [line.strip() for line in source.splitlines()]
-    for line in map(str.strip, snippet.splitlines()):
-        if line not in lines[at:]:
-            return [f"{README}: {RATTLE} has not, or not in this order: {line}"]
-        at = lines.index(line, at) + 1
-    return []
+    """Whether the lines of a snippet stand in the source one after the other, but for comments."""
+    lines = [line for line in source.splitlines() if not line.strip().startswith("//")]
+    wanted = snippet.splitlines()
+    found = any(lines[at : at + len(wanted)] == wanted for at in range(len(lines)))
+    return [] if found else [f"{README}: {RATTLE} has not the block in Rattle"]
+
+
+def tool_faults(text, gate):
+    """Whether README names the tools that the gate asks for."""
+    asked = re.search(r"^for tool in (.+); do$", gate, re.M)
+    named = re.search(r"needs ((?:`[^`]+`,? (?:and )?)+)beside `rt`", text)
+    if asked and named and sorted(asked.group(1).split()) == sorted(["rt", *re.findall(r"`([^`]+)`", named.group(1))]):
+        return []
+    return [f"{README} does not name the tools that the gate asks for"]
 
 
 def run(block, room):
@@ -77,9 +84,9 @@ def run(block, room):
 
 def command_faults(text):
     """What does not come out as README says."""
-    own = [block for block in blocks(text, "sh") if "ffmpeg" not in block]
+    own = blocks(text, "sh")
     if len(own) != 3:
-        yield f"{README}: {len(own)} shell blocks without ffmpeg, in place of: balance, refusal, C"
+        yield f"{README}: {len(own)} shell blocks, in place of: balance, refusal, C"
         return
     balance, refusal, c = own
     with tempfile.TemporaryDirectory() as folder:
@@ -102,9 +109,10 @@ def balance_faults(balance, refusal, room):
         yield f"{README}: the sample is not balanced: {status}, {out!r}, {err!r}"
     if run(refusal, room) != (0, "", ""):
         yield f"{README}: a picture is taken for a refusal"
-    written.write_bytes(b"refused 12\n")
-    if run(refusal, room) != (0, "", "refused 12\n"):
-        yield f"{README}: a refusal is taken for a picture"
+    for answer in "refused 12\n", "":
+        written.write_text(answer, encoding="ascii")
+        if run(refusal, room) != (1, "", answer):
+            yield f"{README}: what is no picture is taken for one: {answer!r}"
 
 
 def selftest():
@@ -126,7 +134,7 @@ def selftest():
     rows = [["ground", "`a`: x. `b`: y"], ["top", "`c`: z of `a`"]]
     if map_faults(rows, ["a", "b", "c"]) or not map_faults(rows, ["a", "b"]) or not map_faults(rows, ["b", "a", "c"]):
         sys.exit("readme.py does not tell a wrong map from a right one")
-    if snippet_faults("a\n  c\n", "a\nb\nc\n") or not snippet_faults("c\na\n", "a\nb\nc\n"):
+    if snippet_faults("a\nc\n", "b\na\n// b\nc\n") or not snippet_faults("a\nc\n", "a\nb\nc\n"):
         sys.exit("readme.py does not tell a wrong snippet from a right one")
 
 
@@ -139,6 +147,7 @@ def main():
     faults = map_faults(table(README, ["layer", "crates"]).rows, listed)
     faults += trust_faults(flowing, reports())
     faults += snippet_faults(rattle[0], read(RATTLE)) if len(rattle) == 1 else [f"{README}: not one block in Rattle"]
+    faults += tool_faults(flowing, read(GATE))
     faults += command_faults(text)
     sys.exit(report("README", f"{len(listed)} crates, {len(blocks(text, 'sh'))} shell blocks", faults))
 

@@ -1,7 +1,8 @@
 """The formulas and figures of docs/RULES.md are those of the exact arithmetic that the other tests use, and of the proved frames.
 
-The formulas are read from the page and computed, in exact fractions: G for every k, and moves of pixels at the edges of the methods' ranges
-and at random, with the factor's rule beside them.
+The formulas are read from the page and computed, in exact fractions: G for every k, entries of curves, and moves of pixels at the edges of
+the methods' ranges and at random, with the factor's rule beside them. What the letters mean is computed by this script, so the page has to
+have the sentences that say it.
 """
 
 import pathlib
@@ -10,18 +11,32 @@ import re
 import sys
 from fractions import Fraction
 from functools import cache
-from itertools import accumulate
+from itertools import accumulate, product
 from math import floor
 
 sys.path.insert(0, "tests")
-from exact import TARGETS, entry, moved  # noqa: E402
+from exact import TARGETS, balanced, entry, moved  # noqa: E402
 from pages import DOCS, read, report, table  # noqa: E402
 
 PAGE = DOCS / "RULES.md"
+HEADER = pathlib.Path("include/cube_balance.h")
+HEADER_FACTOR = re.compile(
+    r"Otherwise it is by Naik and Murthy (\S.*?) for f at most s and (\S.*?) above; by Yang and Lee, for s at most 255, (\S.*?) for f at "
+    r"most 255 and (\S.*?) above; for s from 256 to 510 as Naik and Murthy; for s above 510, (\S.*?) for f at most 510 and (\S.*?) above;"
+)
 STARRED = pathlib.Path("crates/frames/specs/Starred.antt")
 # what may stand in a formula, beside its letters
 SIGNS = {"×": "*", "−": "-", "³": "**3", "²": "**2"}
-FORMULA = re.compile(r"(?:near|[a-z]|\d+|[-+*/() ]|\*\*)+")
+FORMULA = re.compile(r"(?:near|[a-zGHN]|\d+|[-+*/() ]|\*\*)+")
+# what the letters of the formulas stand for
+LETTERS = (
+    "The **intensity** of a pixel, s, is its three samples added, 0 to 765.",
+    "**near(x)** is the whole number nearest to the exact fraction x, halves up.",
+    "H(s) is the number of measured pixels whose intensity is at most s, so H(765) = N.",
+    "By both, entry 0 is then set to 0 and entry 765 to 765",
+    "Black, s = 0, and white, s = 765, stay for every target.",
+    "In every other pixel each sample c becomes what the table says, where d = 255 − c and t = 765 − s.",
+)
 METHODS = {"1": "NaikMurthy", "2": "YangLee"}
 
 
@@ -40,8 +55,9 @@ def program(formula):
 
 
 def computed(formula, **letters):
-    """The exact value of a formula of the page."""
-    return eval(program(formula), {"__builtins__": {}, "near": near}, {name: Fraction(value) for name, value in letters.items()})
+    """The exact value of a formula of the page. A letter is a number or a function."""
+    values = {name: value if callable(value) else Fraction(value) for name, value in letters.items()}
+    return eval(program(formula), {"__builtins__": {}, "near": near}, values)
 
 
 def within(span, value, **letters):
@@ -56,6 +72,36 @@ def target_faults(rows):
         values = {computed(formula, k=k) for span, formula in rows if within(span, k)}
         if values != {TARGETS[k]}:
             yield f"{PAGE}: G({k}) is {sorted(values)}, and not {TARGETS[k]}"
+
+
+def counts_at_random():
+    """N and H: a tie, since G(382) + G(383) = G(765), the ends, and any."""
+    chosen = random.Random(766)
+    yield 2, 1
+    for pixels in 1, 3, 1000, 16777216:
+        yield from {(pixels, 0), (pixels, chosen.randint(0, pixels)), (pixels, pixels)}
+
+
+def entry_faults(rows):
+    """What is wrong with the table of choices: the entries that its sentences give, before the ends are set."""
+    cube = re.fullmatch(
+        r"the k from (\d+) to (\d+) at which (.+?) is nearest to (.+?), of two equal distances the (smaller|larger) k \(equation 14\)",
+        rows[0][1],
+    )
+    equalised = re.fullmatch(r"(near\(.+\)) \(equation 5\)", rows[1][1])
+    if not cube or not equalised:
+        yield f"{PAGE}: the sentences on the choices are not read"
+        return
+    first, last, here, aim, wins = cube.groups()
+    places = range(int(first), int(last) + 1)
+    for pixels, at_most in counts_at_random():
+        letters = {"N": pixels, "G": lambda k: Fraction(TARGETS[int(k)]), "H": lambda s: Fraction(at_most), "s": 0}
+        far = {k: abs(computed(here, k=k, **letters) - computed(aim, **letters)) for k in places}
+        nearest = [k for k in places if far[k] == min(far.values())]
+        found = nearest[0 if wins == "smaller" else -1], computed(equalised.group(1), **letters)
+        if found != (entry(1, pixels, at_most), entry(2, pixels, at_most)):
+            yield f"{PAGE}: for H = {at_most} of N = {pixels} the page's entries are {found}"
+            return
 
 
 def line_for(rows, method, s, f):
@@ -99,6 +145,28 @@ def move_faults(rows):
                         return
 
 
+def header_factor(text, method, s, f):
+    """The factor by the C header's sentence."""
+    found = HEADER_FACTOR.search(" ".join(text.replace("\n * ", "\n").split()))
+    if not found:
+        raise SystemExit(f"{HEADER}: the sentence on the factor is not read")
+    down, up, dark_down, dark_up, bright_down, bright_up = found.groups()
+    if method == 2 and s <= 255:
+        return computed(dark_down if f <= 255 else dark_up, s=s, f=f)
+    if method == 2 and s > 510:
+        return computed(bright_down if f <= 510 else bright_up, s=s, f=f)
+    return computed(down if f <= s else up, s=s, f=f)
+
+
+def header_faults(text, rows):
+    """Whether the C header has another factor than the page."""
+    for s in 1, 2, 254, 255, 256, 300, 509, 510, 511, 512, 700, 764:
+        for f, method in product(targets(s) & set(range(766)), (1, 2)):
+            if header_factor(text, method, s, f) != computed(line_for(rows, method, s, f)[1], s=s, f=f, t=765 - s):
+                yield f"{HEADER}: the factor of method {method} for s = {s}, f = {f} is not that of {PAGE}"
+                return
+
+
 def samples(cell):
     return tuple(int(sample) for sample in cell.strip("()").split(","))
 
@@ -117,7 +185,11 @@ def figure_faults(rows):
 
 def curve_faults(text):
     """What is wrong with the sentence on the curve of two pixels."""
-    found = re.search(r"intensity (\d+) and one of (\d+), the cube's curve is 0 up to (\d+), (\d+) from (\d+) to (\d+), and 765 from (\d+); equalised, it has (\d+)", text)
+    found = re.search(
+        r"intensity (\d+) and one of (\d+), the cube's curve is 0 up to (\d+), (\d+) from (\d+) to (\d+), and 765 from (\d+); "
+        r"equalised, it has (\d+) in place of \4\.",
+        text,
+    )
     if not found:
         return [f"{PAGE}: no sentence on the curve of two pixels"]
     dark, bright, below, cube, first, last, white, equalised = map(int, found.groups())
@@ -127,6 +199,21 @@ def curve_faults(text):
         if curve != [0] * (below + 1) + [level] * (last - first + 1) + [765] * (766 - white) or first != below + 1 or white != last + 1:
             return [f"{PAGE}: the curve of {dark} and {bright} by choice {choice} is another"]
     return []
+
+
+def run_faults(text):
+    """What is wrong with the figures that are run and not proved."""
+    flat = re.search(r"All pixels of intensity (\d+): the entries are 0 up to (\d+), and 765 from (\d+), by both choices\.", text)
+    if not flat:
+        return [f"{PAGE}: no sentence on the curve of one intensity"]
+    s, below, white = map(int, flat.groups())
+    if (below, white) != (s - 1, s) or any(entry(choice, 3, at_most) != 765 * at_most // 3 for choice in (1, 2) for at_most in (0, 3)):
+        return [f"{PAGE}: the curve of one intensity is another"]
+    file = re.search(r"pixels (\(.+?\)) and (\(.+?\)) `balance` writes (\(.+?\)) and (\(.+?\))\.", text)
+    if not file:
+        return [f"{PAGE}: no sentence on what `balance` writes"]
+    one, two, *written = (bytes(samples(cell)) for cell in file.groups())
+    return [] if balanced(one + two, 1, 2) == b"".join(written) else [f"{PAGE}: `balance` writes something else for two pixels"]
 
 
 def selftest():
@@ -141,15 +228,26 @@ def selftest():
             sys.exit(f"rules.py does not find {wrong} wrong")
     if not list(target_faults([["0 to 765", "k³"]])):
         sys.exit("rules.py does not find a wrong G")
+    choices = table(PAGE, ["choice", "the entry for s"]).rows
+    for place, right, wrong in (0, "smaller", "larger"), (0, "G(765)", "G(764)"), (1, "765 × H", "764 × H"):
+        rows = [list(row) for row in choices]
+        rows[place][1] = rows[place][1].replace(right, wrong)
+        if not list(entry_faults(rows)):
+            sys.exit(f"rules.py does not find {wrong} wrong in the table of choices")
 
 
 def main():
     selftest()
+    flowing = " ".join(read(PAGE).split())
     faults = [
+        *(f"{PAGE} does not say: {words}" for words in LETTERS if words not in flowing),
         *target_faults(table(PAGE, ["k", "G(k)"]).rows),
+        *entry_faults(table(PAGE, ["choice", "the entry for s"]).rows),
         *move_faults(table(PAGE, ["method", "s", "f"]).rows),
+        *header_faults(read(HEADER), table(PAGE, ["method", "s", "f"]).rows),
         *figure_faults(table(PAGE, ["method", "pixel", "target"]).rows),
-        *curve_faults(" ".join(read(PAGE).split())),
+        *curve_faults(flowing),
+        *run_faults(flowing),
     ]
     sys.exit(report("rules", f"{sum(1 for _ in pixels())} pixels moved by the page's formulas", faults))
 

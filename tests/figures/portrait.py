@@ -91,7 +91,9 @@ def chunks(file):
 
 def unpacked(file):
     """The rows of a PNG file that has the figure's size and form."""
-    (first, head), *rest = chunks(file)
+    (first, head), *rest = parts = list(chunks(file))
+    if {kind for kind, _ in parts} != {b"IHDR", b"sRGB", b"IDAT", b"IEND"} or (b"sRGB", PERCEPTUAL) not in rest:
+        fail(f"{FIGURE.name} has other chunks than this script writes")
     if first != b"IHDR" or head[8:] != FORM:
         fail(f"{FIGURE.name} is not of the form that this script writes, 8-bit RGB")
     if head[:8] != SIZE:

@@ -5,7 +5,7 @@
  *
  * CHOICE is 1 (cube, the default) or 2 (equalised); METHOD is 1 (Naik and Murthy) or 2 (Yang and Lee, the default). The time that
  * the two calls took for each frame goes to standard error, beside the slot of a frame at 24 frames a second, and a summary at the
- * end. Exit status 2: bad arguments; 1: anything else that failed. README.md has the commands, between two of ffmpeg.
+ * end. Exit status 2: bad arguments; 1: anything else that failed. docs/CALLS.md has the commands, between two of ffmpeg.
  */
 #define _POSIX_C_SOURCE 200809L
 #include "cube_balance.h"

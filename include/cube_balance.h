@@ -4,8 +4,8 @@
  * cube_balance_curve makes the tone curve of a strip of pixels, cube_balance_colour colours pixels by a curve. Each is proved to
  * hand back and to write exactly what its rules give, for all that it may be lent (crates/host/specs/Host.antt in the sources).
  *
- * Pixels are bytes, three to a pixel: red, green, blue. The sum of a pixel is the three added, 0 to 765. A strip is a run of pixels,
- * a shot all the pixels that one curve is made of.
+ * Pixels are bytes, three to a pixel: red, green, blue. The intensity of a pixel is the three added, 0 to 765. A strip is a run of
+ * pixels, a shot all the pixels that one curve is made of.
  *
  * Runs. A run is a pointer and a length in bytes. It is for the caller to see, and no call can check, that
  * - the runs lent to one call lie apart: a picture cannot be coloured in place;
@@ -18,21 +18,21 @@
  * (cube_balance_colour). After a refused call that run holds what it held before. Nothing is kept from call to call, so calls may
  * run side by side in several threads, also on the same curve or source. Nothing is allocated; a call needs at most 64 KiB of stack.
  *
- * A curve travels as CUBE_BALANCE_CURVE_LENGTH bytes. It has an entry for each sum s of a pixel, 0 to 765, entry 0 first, two bytes
- * an entry, low byte first: entry s is curve[2 * s] + 256 * curve[2 * s + 1], the target for the pixels of sum s. A curve is
- * accepted only if entry 0 is 0, entry 765 is 765, none exceeds 765 and none is less than the one before; what cube_balance_curve
- * writes always is.
+ * A curve travels as CUBE_BALANCE_CURVE_LENGTH bytes. It has an entry for each intensity s of a pixel, 0 to 765, entry 0 first, two
+ * bytes an entry, low byte first: entry s is curve[2 * s] + 256 * curve[2 * s + 1], the target for the pixels of intensity s. A
+ * curve is accepted only if entry 0 is 0, entry 765 is 765, none exceeds 765 and none is less than the one before; what
+ * cube_balance_curve writes always is.
  *
  * What a colouring keeps, for every pixel written:
  * - each sample is 0 to 255, and of two channels the one no larger going in comes out no larger, so that equal ones stay equal;
- * - the sum is at most one from the curve's entry for the input sum;
+ * - the intensity is at most one from the curve's entry for the input intensity;
  * - two channels differ by their input difference times one factor, give or take less than a full step; the factor, zero or more,
- *   is common to all three pairs and set by input sum s, entry f and method alone. It is 1 for s = 0 and s = 765. Otherwise it is
- *   by Naik and Murthy f / s for f at most s and (765 - f) / (765 - s) above; by Yang and Lee, for s at most 255, f / s for f at most
- *   255 and (765 - f) / (2 * s) above; for s from 256 to 510 as Naik and Murthy; for s above 510, f / (2 * (765 - s)) for f at most
- *   510 and (765 - f) / (765 - s) above;
- * - of any two pixels coloured by equal curves, in whichever calls and by whichever methods, the one whose input sum is no smaller
- *   has a sum at most two below the other's.
+ *   is common to all three pairs and set by input intensity s, entry f and method alone. It is 1 for s = 0 and s = 765. Otherwise
+ *   it is by Naik and Murthy f / s for f at most s and (765 - f) / (765 - s) above; by Yang and Lee, for s at most 255, f / s for f
+ *   at most 255 and (765 - f) / (2 * s) above; for s from 256 to 510 as Naik and Murthy; for s above 510, f / (2 * (765 - s)) for f
+ *   at most 510 and (765 - f) / (765 - s) above;
+ * - of any two pixels coloured by equal curves, in whichever calls and by whichever methods, the one whose input intensity is no
+ *   smaller has an intensity at most two below the other's.
  *
  * Balancing one frame by itself (a shot of several frames: lay them end to end in one strip, of at most CUBE_BALANCE_PIXEL_LIMIT
  * pixels, for its curve, and colour each by it):

@@ -6,10 +6,10 @@ tests/video.py has the same done by ffmpeg.
 """
 
 from fractions import Fraction
-from math import floor
 from typing import NamedTuple
 
 from colour import apart, chroma, width
+from exact import near
 
 RED, BLUE = Fraction(2126, 10000), Fraction(722, 10000)
 GREEN = 1 - RED - BLUE
@@ -33,12 +33,12 @@ FORMATS = (
 )
 
 
-def near(x):
-    return floor(x + Fraction(1, 2))
+def rounded(x):
+    return near(*x.as_integer_ratio())
 
 
 def byte(x):
-    return min(255, max(0, near(x)))
+    return min(255, max(0, rounded(x)))
 
 
 def mean(values):
@@ -53,7 +53,7 @@ def luma(pixel):
 def coded(x, zero, bits):
     """A number in code values of 8 bits, as a format of these bits holds it."""
     steps = 2 ** (bits - 8)
-    return Fraction(near(steps * (zero + x)), steps) - zero
+    return Fraction(rounded(steps * (zero + x)), steps) - zero
 
 
 def read_back(y, blue, red):

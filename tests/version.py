@@ -7,7 +7,6 @@ import sys
 CHANGES = pathlib.Path("CHANGES.md")
 HEADER = pathlib.Path("include/cube_balance.h")
 PARTS = "MAJOR", "MINOR", "PATCH"
-MAJOR = "CUBE_BALANCE_VERSION_MAJOR"
 NUMBER = "(0|[1-9][0-9]*)"
 SECTION = re.compile(r"^## *(.*)$", re.M)
 VERSION = re.compile(rf"{NUMBER}\.{NUMBER}\.{NUMBER}")
@@ -31,11 +30,12 @@ def faults(changes, text):
     for newer, older in zip(versions, versions[1:]):
         if newer <= older:
             yield f"{CHANGES}: {shown(newer)} stands above {shown(older)}"
-    if header is not None and f"#if {MAJOR} != {header[0]}." not in text:
-        yield f"{HEADER}: its example does not test for {header[0]}"
     if header is None:
         yield f"{HEADER} does not define each part of its version once"
-    elif versions[:1] != [header]:
+        return
+    if f"#if CUBE_BALANCE_VERSION_MAJOR != {header[0]}." not in text:
+        yield f"{HEADER}: its example does not test for {header[0]}"
+    if versions[:1] != [header]:
         yield f"{HEADER} has {shown(header)}, and the newest section of {CHANGES} is {shown(versions[0]) if versions else 'not there'}"
 
 

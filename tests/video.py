@@ -16,9 +16,10 @@ from fractions import Fraction
 from typing import NamedTuple
 
 from delivery import share_beyond
-from exact import balanced, pixels_of
+from exact import pixels_of
 
-sys.path.insert(0, "tests/docs")
+sys.path[1:1] = "tests/docs", "tests/file"
+from exact_file import answer  # noqa: E402
 from pages import DOCS, blocks, read  # noqa: E402
 
 ROOT = pathlib.Path.cwd()
@@ -38,8 +39,8 @@ def expect(case, good, what):
         sys.exit(f"video: FAILED: {case}: {what}")
 
 
-def ffmpeg(*words, data=b""):
-    return subprocess.run(["ffmpeg", "-v", "error", *words], input=data, stdout=subprocess.PIPE, check=True).stdout
+def ffmpeg(*words):
+    return subprocess.run(["ffmpeg", "-v", "error", *words], stdin=subprocess.DEVNULL, stdout=subprocess.PIPE, check=True).stdout
 
 
 def rgb(file):
@@ -87,10 +88,9 @@ def make(clip, file):
     ffmpeg(*words, "-c:v", "mpeg2video", "-q:v", "2", "-f", clip.container, file)
 
 
-def filtered(room, frames, size):
+def filtered(room, frames, sides):
     """What the filter writes for these frames."""
-    width, height = map(str, size)
-    done = subprocess.run([room / "target/rgb24", width, height], input=frames, stdout=subprocess.PIPE, stderr=subprocess.PIPE, check=True)
+    done = subprocess.run([room / "target/rgb24", *map(str, sides)], input=frames, stdout=subprocess.PIPE, stderr=subprocess.PIPE, check=True)
     return done.stdout
 
 
@@ -121,10 +121,10 @@ def try_clip(block, room, case, clip):
 
 def try_failure(clip, still, room):
     """Where the filter fails at the end, so do the commands."""
-    filter_ = room / "target/rgb24"
-    filter_.unlink()
-    filter_.write_text("#!/bin/sh\ncat\nexit 1\n", encoding="ascii")
-    filter_.chmod(0o755)
+    failing = room / "target/rgb24"
+    failing.unlink()
+    failing.write_text("#!/bin/sh\ncat\nexit 1\n", encoding="ascii")
+    failing.chmod(0o755)
     make(Clip((64, 64), 3), room / "in.mp4")
     for block, result in (clip, room / "out.mkv"), (still, room / "out.png"):
         result.unlink()
@@ -143,18 +143,16 @@ def try_still(block, room):
 
 def try_delivery(room):
     """The balanced sample through real files: RGB without loss and 10-bit 4:4:4 keep hue, 8-bit 4:2:0 loses more than half."""
-    picture = (ROOT / "samples/portrait.ppm").read_bytes()
-    _, size, _, rest = picture.split(b"\n", 3)
-    sample = balanced(rest, 1, 2)
+    sample = room / "balanced.ppm"
+    sample.write_bytes(answer((ROOT / "samples/portrait.ppm").read_bytes()))
     for form, words, due in (
         ("bgr0", (), lambda share: share == 0),
         ("yuv444p10le", TAGGED, lambda share: share == 0),
         ("yuv420p", TAGGED, lambda share: share > Fraction(1, 2)),
     ):
         file = room / f"{form}.mkv"
-        raw = "-f", "rawvideo", "-pix_fmt", "rgb24", "-s", size.decode().replace(" ", "x"), "-i", "-"
-        ffmpeg(*raw, *words, "-c:v", "ffv1", "-pix_fmt", form, file, data=sample)
-        share = share_beyond(pixels_of(sample), pixels_of(rgb(file)))
+        ffmpeg("-i", sample, *words, "-c:v", "ffv1", "-pix_fmt", form, file)
+        share = share_beyond(pixels_of(rgb(sample)), pixels_of(rgb(file)))
         expect(form, due(share), f"{float(100 * share):.1f} % of the pixels lie beyond the width")
 
 

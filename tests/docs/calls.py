@@ -9,7 +9,7 @@ import pathlib
 import re
 import sys
 
-from pages import DOCS, README, SPAN, read, report, table
+from pages import DOCS, README, SPAN, flowing, read, report, table, tables
 
 CRATES = pathlib.Path("crates")
 CALLS, RULES, PROMISES = DOCS / "CALLS.md", DOCS / "RULES.md", DOCS / "PROMISES.md"
@@ -109,7 +109,7 @@ def header_faults():
 def parameter_faults():
     """What is wrong with the parameters that the page gives for the calls for C."""
     prototypes = dict(re.findall(r"^uint32_t (\w+)\(([^)]*)\);$", read(HEADER), re.M))
-    calls = [SPAN.findall(row[0])[0][1] for row in table(CALLS, ["call", "does"], last=True).rows]
+    calls = [span for one in tables(read(CALLS)) for row in one.rows for _, span in SPAN.findall(row[0]) if span.startswith("cube_balance_")]
     due = [f"{name}({', '.join(part.split()[-1].strip('*') for part in parts.split(','))})" for name, parts in prototypes.items()]
     return [] if calls == due else [f"{CALLS}: the calls for C are {calls}, and the header has {due}"]
 
@@ -125,7 +125,7 @@ def word_faults():
         (RULES, f"| {equalised}, equalised |"),
         (RULES, f"Method {first} is Naik and Murthy's, method {second} Yang and Lee's."),
     ):
-        if words not in " ".join(read(page).split()):
+        if words not in flowing(read(page)):
             yield f"{page} does not say: {words}"
 
 

@@ -13,10 +13,13 @@ sys.path.insert(0, "tests")
 sys.path.insert(0, "tests/file")
 from cases import BY_HAND, BY_TOOLS, CASES  # noqa: E402
 from claims import claims_of, read_specs  # noqa: E402
-from pages import DOCS, all_pages, read, report, table, tables  # noqa: E402
+from pages import DOCS, README, all_pages, flowing, read, report, table, tables  # noqa: E402
 
 CRATES = pathlib.Path("crates")
-HEADER = "../include/cube_balance.h"
+HEADER = pathlib.Path("include/cube_balance.h")
+ACCURACY, DECISIONS, OPEN, PERFORMANCE, PROMISES, RULES = (
+    DOCS / f"{name}.md" for name in ("ACCURACY", "DECISIONS", "OPEN", "PERFORMANCE", "PROMISES", "RULES")
+)
 
 
 def numbers(rows, place, **cells):
@@ -36,18 +39,18 @@ def span(values, digits, unit=""):
 def jobs_sentences(jobs):
     """What is said of the jobs, by the medians of both sizes: our time, plain C's, and their ratio."""
     ours, plain, ratio = 3, 5, 7
-    yield "PERFORMANCE.md", span(numbers(jobs, ratio, frame="", job="colouring"), 1, " times plain C's speed")
-    yield "PERFORMANCE.md", f"| {span(numbers(jobs, ratio, frame='', job='colouring'), 1)} times | met |"
-    yield "PERFORMANCE.md", f"| {span(numbers(jobs, ratio, frame='random', job='measuring'), 2)} times | met |"
-    yield "PERFORMANCE.md", f"| {span(numbers(jobs, ratio, frame='flat', job='measuring'), 2)} times | **not met** |"
-    yield "OPEN.md", f"Measuring flat frames is {span(numbers(jobs, ratio, frame='flat', job='measuring'), 2)} times plain C's speed"
+    yield PERFORMANCE, span(numbers(jobs, ratio, frame="", job="colouring"), 1, " times plain C's speed")
+    yield PERFORMANCE, f"| {span(numbers(jobs, ratio, frame='', job='colouring'), 1)} times | met |"
+    yield PERFORMANCE, f"| {span(numbers(jobs, ratio, frame='random', job='measuring'), 2)} times | met |"
+    yield PERFORMANCE, f"| {span(numbers(jobs, ratio, frame='flat', job='measuring'), 2)} times | **not met** |"
+    yield OPEN, f"Measuring flat frames is {span(numbers(jobs, ratio, frame='flat', job='measuring'), 2)} times plain C's speed"
     flat = {"frame": "flat", "job": "measuring"}
-    yield "PERFORMANCE.md", (
+    yield PERFORMANCE, (
         f"plain C takes {min(numbers(jobs, plain, **flat)):.2f} ns a pixel on a flat frame, less than on a random one, "
         f"and the library {min(numbers(jobs, ours, **flat)):.2f}."
     )
     smooth = {"frame": "smooth", "job": "measuring"}
-    yield "PERFORMANCE.md", (
+    yield PERFORMANCE, (
         f"plain C takes {span(numbers(jobs, plain, **smooth), 1)} ns there, and four histograms bring "
         f"{span(numbers(jobs, ratio, **smooth), 1)} times its speed."
     )
@@ -55,22 +58,22 @@ def jobs_sentences(jobs):
 
 def frame_sentences(frames):
     """What is said of whole frames of 3840 × 2160, by the medians."""
-    yield "PERFORMANCE.md", f"is measured, fixed and coloured in {span(numbers(frames, 2), 0)} ms on one core"
-    yield "../README.md", f"a 3840 × 2160 frame takes {span(numbers(frames, 2), 0)} ms on one core"
-    yield "PERFORMANCE.md", f"| {span(numbers(frames, 3), 0)} % of the slot | met |"
+    yield PERFORMANCE, f"is measured, fixed and coloured in {span(numbers(frames, 2), 0)} ms on one core"
+    yield README, f"a 3840 × 2160 frame takes {span(numbers(frames, 2), 0)} ms on one core"
+    yield PERFORMANCE, f"| {span(numbers(frames, 3), 0)} % of the slot | met |"
 
 
 def size_sentences(sizes):
     """What is said of cost by size: the medians of one pixel, and the bests of one and of the most."""
     (curve,), (colour,) = numbers(sizes[:1], 2), numbers(sizes[:1], 4)
-    yield "PERFORMANCE.md", f"| {curve:.1f} µs for a curve, {colour:.1f} µs for a colouring | met |"
+    yield PERFORMANCE, f"| {curve:.1f} µs for a curve, {colour:.1f} µs for a colouring | met |"
     (curve,), (colour,) = numbers(sizes[:1], 1), numbers(sizes[:1], 3)
     (most,), (largest_curve,), (largest_colour,) = (numbers(sizes[-1:], place) for place in (0, 1, 3))
-    yield "PERFORMANCE.md", (
+    yield PERFORMANCE, (
         f"A strip of one pixel takes {curve:.1f} µs for its curve and {colour:.1f} µs for its colouring, one of {int(most):,} pixels "
         f"{largest_curve / 1000:.1f} ms and {largest_colour / 1000:.1f} ms"
     )
-    yield "OPEN.md", f"its 766 lines take {colour:.1f} µs"
+    yield OPEN, f"its 766 lines take {colour:.1f} µs"
 
 
 def benchmark_sentences():
@@ -92,33 +95,33 @@ def tolerance_sentences():
     steps, most, below = map(int, mission.groups())
     degrees = int(bound.group(1)) * steps
     words = {1: "one", 2: "two"}
-    yield "RULES.md", f"3. The intensity is at most {most} from the curve's entry for the input intensity."
-    yield "RULES.md", f"4. Two channels differ by their input difference times the factor, give or take less than {steps}."
-    yield "RULES.md", f"comes out with an intensity at most {below} below the other's."
-    yield "PROMISES.md", f"| 3. the intensity is at most {most} from the entry |"
-    yield "PROMISES.md", f"give or take less than {steps} |"
-    yield "PROMISES.md", f"is at most {below} below the other |"
-    yield "../README.md", f"moves by less than {degrees}° divided by the written pixel's chroma"
-    yield "../README.md", f"by less than one degree at a chroma of {degrees};"
-    yield "../README.md", f"**chroma** is less than {steps} code value from a factor times the source's;"
-    yield "../README.md", f"is at most {most} from the tone curve's entry for the source pixel."
-    yield "ACCURACY.md", f"| the hue of the source pixel | less than {degrees}° / written chroma |"
-    yield "ACCURACY.md", f"| the factor times the chroma of the source pixel | less than {steps} code value |"
-    yield "ACCURACY.md", f"| the curve's entry for the source pixel's intensity | at most {most}, a third"
+    yield RULES, f"3. The intensity is at most {most} from the curve's entry for the input intensity."
+    yield RULES, f"4. Two channels differ by their input difference times the factor, give or take less than {steps}."
+    yield RULES, f"comes out with an intensity at most {below} below the other's."
+    yield PROMISES, f"| 3. the intensity is at most {most} from the entry |"
+    yield PROMISES, f"give or take less than {steps} |"
+    yield PROMISES, f"is at most {below} below the other |"
+    yield README, f"moves by less than {degrees}° divided by the written pixel's chroma"
+    yield README, f"by less than one degree at a chroma of {degrees};"
+    yield README, f"**chroma** is less than {steps} code value from a factor times the source's;"
+    yield README, f"is at most {most} from the tone curve's entry for the source pixel."
+    yield ACCURACY, f"| the hue of the source pixel | less than {degrees}° / written chroma |"
+    yield ACCURACY, f"| the factor times the chroma of the source pixel | less than {steps} code value |"
+    yield ACCURACY, f"| the curve's entry for the source pixel's intensity | at most {most}, a third"
     yield HEADER, f"the intensity is at most {words.get(most, most)} from the curve's entry for the input intensity;"
     yield HEADER, f"has an intensity at most {words.get(below, below)} below the other's."
 
 
 def delivery_sentences():
     """What README.md says of the costliest format of docs/ACCURACY.md's table."""
-    form, share, _ = table(DOCS / "ACCURACY.md", ["format"]).rows[0]
-    yield "../README.md", f"{form} alone moves hue beyond the widths above in [{share} of the sample's pixels]"
+    form, share, _ = table(ACCURACY, ["format"]).rows[0]
+    yield README, f"{form} alone moves hue beyond the widths above in [{share} of the sample's pixels]"
 
 
 def test_sentences():
     """What is said of the tests over files."""
     by_tools = sum(1 for _ in BY_TOOLS.glob("*.ppm"))
-    yield "DECISIONS.md", f"{CASES} cases, {BY_HAND} of them with the answer written by hand, {by_tools} of the inputs written by"
+    yield DECISIONS, f"{CASES} cases, {BY_HAND} of them with the answer written by hand, {by_tools} of the inputs written by"
 
 
 def newest(text):
@@ -133,7 +136,7 @@ def landing_faults(entry):
     crates = sum(1 for path in CRATES.iterdir() if path.is_dir())
     edits = sum(1 for _ in CRATES.glob("*/must-fail/*.edit"))
     due = f"({crates} crates, {edits} must-fail edits, {claims} claims)"
-    _, _, after = " ".join(entry.split()).partition(" After: ")
+    _, _, after = flowing(entry).partition(" After: ")
     return [] if due in after.partition("**")[0] else [f"docs/LANDINGS.md: the newest entry has not, after it: {due}"]
 
 
@@ -145,9 +148,8 @@ def unfinished_faults():
 def sentence_faults(sentences):
     """The sentences that a page has not."""
     for page, sentence in sentences:
-        # a comment's lines begin with a star
-        if sentence not in " ".join(read(DOCS / page).replace("\n * ", "\n").split()):
-            yield f"docs/{page} does not say: {sentence}"
+        if sentence not in flowing(read(page)):
+            yield f"{page} does not say: {sentence}"
 
 
 def selftest():
@@ -157,7 +159,7 @@ def selftest():
     if span([2.25, 3.5], 1) != "2.2 to 3.5" or span([2, 2], 0, " ms") != "2 ms":
         sys.exit("figures.py reads a table wrongly")
     before = "Before: (22 crates, 132 must-fail edits, 59 claims). After: (1 crates, 1 must-fail edits, 1 claims)"
-    if not list(sentence_faults([("OPEN.md", "what no page says")])) or not landing_faults("1. Nothing") or not landing_faults(before):
+    if not list(sentence_faults([(OPEN, "what no page says")])) or not landing_faults("1. Nothing") or not landing_faults(before):
         sys.exit("figures.py does not find what is wrong")
     if newest("# L\n\n## 2. b\nc\n\n## 1. a\n") != "2. b\nc\n\n":
         sys.exit("figures.py takes another entry for the newest")

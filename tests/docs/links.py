@@ -9,7 +9,7 @@ import pathlib
 import re
 import sys
 
-from pages import DOCS, all_pages, anchors, links, prose, read, report, spans
+from pages import DOCS, all_pages, anchors, flowing, links, prose, read, report, spans
 
 # history speaks in the names and paths of its time
 HISTORY = DOCS / "LANDINGS.md"
@@ -23,9 +23,9 @@ PATH = re.compile(r"(?:\.?[\w+-]+/)+(?:[\w+.-]+)?|[\w-]+\.(?:md|txt|c|h|py|ppm|a
 NAME = re.compile(r"[A-Za-z][\w·'′₀-₉-]*(?:(?:::|\.)[A-Za-z_][\w'-]*)*")
 SOURCES = "crates", "include", "examples", "bench", "tests", "bin", "samples", ".ci"
 # what a reader makes: products, and the files of examples
-MADE = {"target", "balanced.ppm", "program.c", "out.ppm", "in.png", "out.png"}
+MADE = {"target", "balanced.ppm"}
 # words in backquotes that are no names of ours
-WORDS = {"P6", "refused", "rt", "convert", "ffmpeg", "ffprobe", "memcpy", "memset", "objdump", "ulimit", "rattle-kit-5b-plain"}
+WORDS = {"P6", "refused", "rt", "ffmpeg", "ffprobe", "memcpy", "memset", "objdump", "ulimit", "rattle-kit-5b-plain"}
 
 
 def link_faults(path):
@@ -92,7 +92,7 @@ def name_faults(path, known):
 
 def paper_faults(path):
     """The papers that are cited, which the reader does not have; a citation may run over lines."""
-    for found in PAPERS.finditer(" ".join(" ".join(prose(read(path))).split())):
+    for found in PAPERS.finditer(flowing("\n".join(prose(read(path))))):
         yield f"{path}: cites {found.group()}, and does not say what it is"
 
 

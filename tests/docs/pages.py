@@ -21,6 +21,11 @@ def read(path):
     return path.read_text(encoding="utf-8")
 
 
+def flowing(text):
+    """A text without its line breaks; of a C comment's lines the stars go too."""
+    return " ".join(text.replace("\n * ", "\n").split())
+
+
 def prose(text):
     """The lines outside code blocks, and nothing for those inside: between fences, or set in by four spaces after an empty line."""
     fenced, kept = False, []
@@ -88,12 +93,12 @@ def tables(text):
     return found
 
 
-def table(path, first, last=False):
-    """The one table of a page whose head begins with these cells; or, of several, the last."""
+def table(path, first):
+    """The one table of a page whose head begins with these cells."""
     fitting = [one for one in tables(read(path)) if one.head[: len(first)] == first]
-    if not fitting or not fitting[-1].rows or len(fitting) > 1 and not last:
+    if len(fitting) != 1 or not fitting[0].rows:
         raise SystemExit(f"{path}: {len(fitting)} tables with the head {first}, in place of one with rows")
-    return fitting[-1]
+    return fitting[0]
 
 
 def report(name, count, faults):

@@ -179,8 +179,8 @@ def fields():
     """The fields of every record of specs/."""
     found = {}
     for path in CRATES.glob("*/specs/**/*.antt"):
-        for name, body in re.findall(r"^pub record (\w+).* where\n((?:(?: .*)?\n)+)", path.read_text(encoding="utf-8") + "\n", re.M):
-            found.setdefault(name, set()).update(re.findall(r"^  pub (\S+) :", body, re.M))
+        for name, lines in re.findall(r"^pub record (\w+).* where\n((?:(?: .*)?\n)+)", path.read_text(encoding="utf-8") + "\n", re.M):
+            found.setdefault(name, set()).update(re.findall(r"^  pub (\S+) :", lines, re.M))
     return found
 
 

@@ -10,9 +10,9 @@ import subprocess
 import sys
 import tempfile
 
-sys.path.insert(0, "tests")
-from exact import balanced  # noqa: E402
-from pages import README, SPAN, blocks, read, report, table  # noqa: E402
+sys.path.insert(0, "tests/file")
+from exact_file import answer  # noqa: E402
+from pages import README, blocks, flowing, read, report, table  # noqa: E402
 
 LINKED = "bin", "include", "examples", "samples", "target"
 ROOT = pathlib.Path.cwd()
@@ -104,15 +104,14 @@ def balance_faults(balance, refusal, room):
     """What is wrong with the picture that the first block makes, and with how the second tells it from a refusal."""
     status, out, err = run(balance, room)
     picture, written = (ROOT / "samples/portrait.ppm").read_bytes(), room / "balanced.ppm"
-    head = picture.index(b"255\n") + 4
-    if status or out or not written.is_file() or written.read_bytes() != picture[:head] + balanced(picture[head:], 1, 2):
+    if status or out or not written.is_file() or written.read_bytes() != answer(picture):
         yield f"{README}: the sample is not balanced: {status}, {out!r}, {err!r}"
     if run(refusal, room) != (0, "", ""):
         yield f"{README}: a picture is taken for a refusal"
-    for answer in "refused 12\n", "":
-        written.write_text(answer, encoding="ascii")
-        if run(refusal, room) != (1, "", answer):
-            yield f"{README}: what is no picture is taken for one: {answer!r}"
+    for refused in "refused 12\n", "":
+        written.write_text(refused, encoding="ascii")
+        if run(refusal, room) != (1, "", refused):
+            yield f"{README}: what is no picture is taken for one: {refused!r}"
 
 
 def selftest():
@@ -141,13 +140,12 @@ def selftest():
 def main():
     selftest()
     text = read(README)
-    flowing = " ".join(text.split())
     listed = re.findall(r"^(\w+):", read(pathlib.Path("crates.txt")), re.M)
     rattle = blocks(text, "rust")
     faults = map_faults(table(README, ["layer", "crates"]).rows, listed)
-    faults += trust_faults(flowing, reports())
+    faults += trust_faults(flowing(text), reports())
     faults += snippet_faults(rattle[0], read(RATTLE)) if len(rattle) == 1 else [f"{README}: not one block in Rattle"]
-    faults += tool_faults(flowing, read(GATE))
+    faults += tool_faults(flowing(text), read(GATE))
     faults += command_faults(text)
     sys.exit(report("README", f"{len(listed)} crates, {len(blocks(text, 'sh'))} shell blocks", faults))
 

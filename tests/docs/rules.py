@@ -1,4 +1,4 @@
-"""The formulas and figures of docs/RULES.md are those of the exact arithmetic that the other tests use, and of the proved frames.
+"""The formulas and figures of docs/RULES.md are those of the exact arithmetic that the other tests use, and of the frames, proved or run.
 
 The formulas are read from the page and computed, in exact fractions: G for every k, entries of curves, and moves of pixels at the edges of
 the methods' ranges and at random, with the factor's rule beside them. What the letters mean is computed by this script, so the page has to
@@ -11,12 +11,12 @@ import re
 import sys
 from fractions import Fraction
 from functools import cache
-from itertools import accumulate, product
+from itertools import product
 from math import floor
 
 sys.path.insert(0, "tests")
-from exact import TARGETS, balanced, entry, moved  # noqa: E402
-from pages import DOCS, read, report, table  # noqa: E402
+from exact import TARGETS, balanced, curve_of, entry, moved  # noqa: E402
+from pages import DOCS, flowing, read, report, table  # noqa: E402
 
 PAGE = DOCS / "RULES.md"
 HEADER = pathlib.Path("include/cube_balance.h")
@@ -25,6 +25,7 @@ HEADER_FACTOR = re.compile(
     r"most 255 and (\S.*?) above; for s from 256 to 510 as Naik and Murthy; for s above 510, (\S.*?) for f at most 510 and (\S.*?) above;"
 )
 STARRED = pathlib.Path("crates/frames/specs/Starred.antt")
+PRINTED = pathlib.Path("crates/frames/stdout")
 # what may stand in a formula, beside its letters
 SIGNS = {"×": "*", "−": "-", "³": "**3", "²": "**2"}
 FORMULA = re.compile(r"(?:near|[a-zGHN]|\d+|[-+*/() ]|\*\*)+")
@@ -74,7 +75,7 @@ def target_faults(rows):
             yield f"{PAGE}: G({k}) is {sorted(values)}, and not {TARGETS[k]}"
 
 
-def counts_at_random():
+def tallies():
     """N and H: a tie, since G(382) + G(383) = G(765), the ends, and any."""
     chosen = random.Random(766)
     yield 2, 1
@@ -94,7 +95,7 @@ def entry_faults(rows):
         return
     first, last, here, aim, wins = cube.groups()
     places = range(int(first), int(last) + 1)
-    for pixels, at_most in counts_at_random():
+    for pixels, at_most in tallies():
         letters = {"N": pixels, "G": lambda k: Fraction(TARGETS[int(k)]), "H": lambda s: Fraction(at_most), "s": 0}
         far = {k: abs(computed(here, k=k, **letters) - computed(aim, **letters)) for k in places}
         nearest = [k for k in places if far[k] == min(far.values())]
@@ -147,7 +148,7 @@ def move_faults(rows):
 
 def header_factor(text, method, s, f):
     """The factor by the C header's sentence."""
-    found = HEADER_FACTOR.search(" ".join(text.replace("\n * ", "\n").split()))
+    found = HEADER_FACTOR.search(flowing(text))
     if not found:
         raise SystemExit(f"{HEADER}: the sentence on the factor is not read")
     down, up, dark_down, dark_up, bright_down, bright_up = found.groups()
@@ -183,37 +184,61 @@ def figure_faults(rows):
         yield f"{PAGE}: the moves in figures are not those of {STARRED}"
 
 
+def curve_of_intensities(choice, *intensities):
+    """The tone curve of a shot with a pixel of each of these intensities."""
+    return curve_of(bytes(sample for s in intensities for sample in (min(s, 255), min(max(s - 255, 0), 255), max(s - 510, 0))), choice)
+
+
 def curve_faults(text):
-    """What is wrong with the sentence on the curve of two pixels."""
-    found = re.search(
+    """What is wrong with the sentences on curves, of two intensities and of one."""
+    two = re.search(
         r"intensity (\d+) and one of (\d+), the cube's curve is 0 up to (\d+), (\d+) from (\d+) to (\d+), and 765 from (\d+); "
         r"equalised, it has (\d+) in place of \4\.",
         text,
     )
-    if not found:
-        return [f"{PAGE}: no sentence on the curve of two pixels"]
-    dark, bright, below, cube, first, last, white, equalised = map(int, found.groups())
-    counts = [int(s in (dark, bright)) for s in range(766)]
+    one = re.search(r"All pixels of intensity (\d+): the entries are 0 up to (\d+), and 765 from (\d+), by both choices\.", text)
+    if not one or not two:
+        yield f"{PAGE}: the sentences on curves are not read"
+        return
+    dark, bright, below, cube, first, last, white, equalised = map(int, two.groups())
     for choice, level in (1, cube), (2, equalised):
-        curve = [0] + [entry(choice, 2, at_most) for at_most in list(accumulate(counts))[1:765]] + [765]
-        if curve != [0] * (below + 1) + [level] * (last - first + 1) + [765] * (766 - white) or first != below + 1 or white != last + 1:
-            return [f"{PAGE}: the curve of {dark} and {bright} by choice {choice} is another"]
-    return []
+        curve = [0] * (below + 1) + [level] * (last - first + 1) + [765] * (766 - white)
+        if curve_of_intensities(choice, dark, bright) != curve or (first, white) != (below + 1, last + 1):
+            yield f"{PAGE}: the curve of {dark} and {bright} by choice {choice} is another"
+    s, below, white = map(int, one.groups())
+    for choice in 1, 2:
+        if curve_of_intensities(choice, s) != [0] * (below + 1) + [765] * (766 - white) or white != below + 1:
+            yield f"{PAGE}: the curve of {s} by choice {choice} is another"
+
+
+def run_sentences(printed):
+    """What is said of lengths, targets and the limit, by what `frames` prints."""
+    moves = re.findall(r"^move by method 1 of [\d ]+ to (\d+): number (\d+),", printed, re.M)
+    lengths = re.findall(r"^measure of length (\d+): number (\d+)$", printed, re.M)
+    length, times = map(int, re.search(r"^measure of length (\d+): accepted (\d+) times$", printed, re.M).groups())
+    (taken, good), (refused, number), (two, over), (one, fits), (more, full) = lengths
+    if (good, fits, two, one, more, over) != ("0", "0", "6", "3", "3", full):
+        raise SystemExit(f"{PRINTED}: not the measures that the page tells of")
+    (target, moves_to), (above, refused_by) = moves
+    if moves_to != "0":
+        raise SystemExit(f"{PRINTED}: not the moves that the page tells of")
+    yield f"A strip of {taken} bytes is measured, one of {refused} is refused {number}."
+    yield f"A pixel moves to the target {target}, and {above} is refused {refused_by}."
+    yield f"At {length * times // 3:,} pixels a shot measures one more, and refuses two by {over}."
 
 
 def run_faults(text):
     """What is wrong with the figures that are run and not proved."""
-    flat = re.search(r"All pixels of intensity (\d+): the entries are 0 up to (\d+), and 765 from (\d+), by both choices\.", text)
-    if not flat:
-        return [f"{PAGE}: no sentence on the curve of one intensity"]
-    s, below, white = map(int, flat.groups())
-    if (below, white) != (s - 1, s) or any(entry(choice, 3, at_most) != 765 * at_most // 3 for choice in (1, 2) for at_most in (0, 3)):
-        return [f"{PAGE}: the curve of one intensity is another"]
+    for sentence in run_sentences(read(PRINTED)):
+        if sentence not in text:
+            yield f"{PAGE} does not say: {sentence}"
     file = re.search(r"pixels (\(.+?\)) and (\(.+?\)) `balance` writes (\(.+?\)) and (\(.+?\))\.", text)
     if not file:
-        return [f"{PAGE}: no sentence on what `balance` writes"]
+        yield f"{PAGE}: no sentence on what `balance` writes"
+        return
     one, two, *written = (bytes(samples(cell)) for cell in file.groups())
-    return [] if balanced(one + two, 1, 2) == b"".join(written) else [f"{PAGE}: `balance` writes something else for two pixels"]
+    if balanced(one + two, 1, 2) != b"".join(written):
+        yield f"{PAGE}: `balance` writes something else for two pixels"
 
 
 def selftest():
@@ -238,16 +263,16 @@ def selftest():
 
 def main():
     selftest()
-    flowing = " ".join(read(PAGE).split())
+    text = flowing(read(PAGE))
     faults = [
-        *(f"{PAGE} does not say: {words}" for words in LETTERS if words not in flowing),
+        *(f"{PAGE} does not say: {words}" for words in LETTERS if words not in text),
         *target_faults(table(PAGE, ["k", "G(k)"]).rows),
         *entry_faults(table(PAGE, ["choice", "the entry for s"]).rows),
         *move_faults(table(PAGE, ["method", "s", "f"]).rows),
         *header_faults(read(HEADER), table(PAGE, ["method", "s", "f"]).rows),
         *figure_faults(table(PAGE, ["method", "pixel", "target"]).rows),
-        *curve_faults(flowing),
-        *run_faults(flowing),
+        *curve_faults(text),
+        *run_faults(text),
     ]
     sys.exit(report("rules", f"{sum(1 for _ in pixels())} pixels moved by the page's formulas", faults))
 

@@ -8,7 +8,8 @@ use borrow.Author.Tests.{eqb-false, ltb-false}
 use lib.Dec.{eqb, ltb}
 use lib.ListN.{length, take, length-take}
 use Rattle.tables.specs.Table.{at}
-use Rattle.netpbm.specs.Header.{headerLimit, areaLimit, isSpace, fieldAt, afterNumber, judged, hasLetters, headerIn, HeaderFits, AcceptedHeadersFit}
+use Rattle.scanning.specs.Scanning.{isSpace}
+use Rattle.netpbm.specs.Header.{headerLimit, areaLimit, fieldAt, afterNumber, judged, hasLetters, headerIn, HeaderFits, AcceptedHeadersFit}
 use Rattle.netpbm.specs.declared.Field.{Field}
 use Rattle.netpbm.specs.declared.Field.the-variants.{Number, NoNumber}
 use Rattle.netpbm.specs.declared.Reading.{Reading}

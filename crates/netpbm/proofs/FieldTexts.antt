@@ -8,14 +8,15 @@ use lib.ListN.{length, take, drop, length-append, take-append-drop}
 use lib.Seq.{take-append-seam, drop-append-seam, drop-drop}
 use Rattle.tables.specs.Table.{at}
 use Rattle.text.specs.Decimal.{isDigit, value}
-use Rattle.netpbm.specs.Header.{isSpace, runLength, fieldAt, afterNumber}
+use Rattle.scanning.specs.Scanning.{isSpace, runLength}
+use Rattle.netpbm.specs.Header.{fieldAt, afterNumber}
 use Rattle.netpbm.specs.Grammar.{WhiteSpace, Numeral}
 use Rattle.netpbm.specs.declared.Field.{Field}
 use Rattle.netpbm.specs.declared.Field.the-variants.{Number}
 use Rattle.netpbm.specs.declared.Reading.{Reading}
 use Rattle.netpbm.specs.declared.Reading.the-variants.{Malformed}
 use Rattle.netpbm.proofs.Bytes.{digit-no-space, space-no-digit}
-use Rattle.netpbm.proofs.Runs.{run-append, run-none, length-run, run-all}
+use Rattle.scanning.proofs.Runs.{run-append, run-none, length-run, run-all}
 use Rattle.netpbm.proofs.Fields.{spacesAt, firstAt, digitsAt, endAt, numeralAt, field-number, field-either, length-numeral, numeral-digits}
 
 -- one white-space byte is white space

@@ -2,7 +2,8 @@
 use mathlib.Core.Path.{_≡_, refl, ap, ap₂, _∙_}
 use mathlib.Core.Bool.{true, _&&_, cond}
 use mathlib.Core.List.{List}
-use Prim.Native.Nat.{ℕ, _+_, _-_, _≤_, _<_}
+use Prim.Native.Nat.{ℕ, _+_, _-_, _^_, _≤_, _<_}
+use native.Mathlib.Nat.{pow-le-pow-right}
 use native.Mathlib.Omega.{arith}
 use borrow.Author.Tests.{leb-true, le-leb}
 use borrow.Table.Steps.{cases}
@@ -11,10 +12,12 @@ use lib.ListN.{length, take, drop, length-drop}
 use Rattle.tables.specs.Table.{at}
 use Rattle.tables.proofs.Cases.{both}
 use Rattle.text.specs.Decimal.{isDigit, Digits, value}
-use Rattle.netpbm.specs.Header.{isSpace, runLength, fieldAt, judged, hasLetters, headerIn}
+use Rattle.text.proofs.Decimal.{value-below}
+use Rattle.scanning.specs.Scanning.{isSpace, runLength}
+use Rattle.netpbm.specs.Header.{fieldAt, judged, hasLetters, headerIn}
 use Rattle.netpbm.specs.declared.Field.the-variants.{Number, NoNumber}
 use Rattle.netpbm.specs.declared.Reading.the-variants.{Malformed}
-use Rattle.netpbm.proofs.Runs.{run-within, length-run, run-all}
+use Rattle.scanning.proofs.Runs.{run-within, length-run, run-all}
 
 -- with the letters and three fields found, the byte after them decides
 pub last-decides : (bytes : List ℕ) (width height largest end₁ end₂ end₃ : ℕ) → hasLetters bytes ≡ true
@@ -68,6 +71,15 @@ module _ (bytes : List ℕ) (place : ℕ) where
 
   pub numeral-digits : Digits numeralAt
   numeral-digits = run-all isDigit (drop firstAt bytes)
+
+  -- a number of at most five digits fits 32 bits
+  pub small-number : digitsAt ≤ 5 → value numeralAt < 2 ^ 32
+  small-number most =
+      omega (
+        arith,
+        value-below numeralAt numeral-digits,
+        pow-le-pow-right {n = 10} (omega arith) {i = length numeralAt} {j = 5} (omega (arith, length-numeral)),
+      )
 
   -- a number ends within the bytes
   pub end-within : 0 < digitsAt → endAt ≤ length bytes

@@ -12,7 +12,8 @@ use Rattle.tables.specs.Table.{at}
 use Rattle.text.specs.Decimal.{value}
 use Rattle.text.specs.Text.{ascii}
 use Rattle.text.proofs.Decimal.{decimal-means}
-use Rattle.netpbm.specs.Header.{headerLimit, areaLimit, isSpace, judged, hasLetters, headerIn, headerOf}
+use Rattle.scanning.specs.Scanning.{isSpace}
+use Rattle.netpbm.specs.Header.{headerLimit, areaLimit, judged, hasLetters, headerIn, headerOf}
 use Rattle.netpbm.specs.Grammar.{Parts, textOf, IsHeader, HasHeader, ReadingIsTheGrammar, WrittenIsRead}
 use Rattle.netpbm.specs.declared.Reading.{Reading}
 use Rattle.netpbm.specs.declared.Reading.the-variants.{Accepted, Malformed}

@@ -1,5 +1,4 @@
 pub mod Bytes
-pub mod Runs
 pub mod Fields
 pub mod Letters
 pub mod FieldTexts

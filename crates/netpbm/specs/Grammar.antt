@@ -7,7 +7,8 @@ use lib.ListN.{length}
 use Rattle.tables.specs.Table.{at}
 use Rattle.text.specs.Decimal.{Digits, value}
 use Rattle.text.specs.Text.{ascii}
-use Rattle.netpbm.specs.Header.{headerLimit, areaLimit, isSpace, judged, headerOf, headerText}
+use Rattle.scanning.specs.Scanning.{isSpace}
+use Rattle.netpbm.specs.Header.{headerLimit, areaLimit, judged, headerOf, headerText}
 use Rattle.netpbm.specs.declared.Reading.the-variants.{Accepted, Malformed}
 
 -- The parts of a header after its letters, in their order.

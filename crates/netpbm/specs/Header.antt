@@ -9,6 +9,7 @@ use lib.ListN.{length, take, drop}
 use Rattle.tables.specs.Table.{at}
 use Rattle.text.specs.Decimal.{isDigit, value, decimal}
 use Rattle.text.specs.Text.{ascii}
+use Rattle.scanning.specs.Scanning.{isSpace, runLength}
 use Rattle.netpbm.specs.declared.Field.{Field}
 use Rattle.netpbm.specs.declared.Field.the-variants.{Number, NoNumber}
 use Rattle.netpbm.specs.declared.Header.{Header}
@@ -22,15 +23,6 @@ headerLimit = 64
 -- "Width times height is 1 to 16,384."
 abbrev pub areaLimit : ℕ
 areaLimit = 16384
-
--- "space, tab, LF, VT, FF, CR"
-abbrev pub isSpace : ℕ → Bool
-isSpace b = eqb b 32 || eqb b 9 || eqb b 10 || eqb b 11 || eqb b 12 || eqb b 13
-
--- How many bytes pass the test before the first that does not.
-unfoldable pub runLength : (ℕ → Bool) → List ℕ → ℕ
-runLength test [] = 0
-runLength test (b ∷ bytes) = cond (test b) (suc (runLength test bytes)) 0
 
 -- The field that begins at a place: white space, then a number. "White space is one or more of" the above. "A number has 1 to 5
 -- decimal digits; leading zeros are allowed." The answer has the number, and the place after it.

@@ -1,4 +1,3 @@
 pub mod Header
-pub mod Inner
 pub mod Grammar
 pub mod Examples

@@ -4,8 +4,8 @@ ghost use Prim.Native.Nat.{_+_, _*_, _≤_};
 ghost use lib.ListN.{length, drop};
 ghost use Rattle.tables.specs.Table.{at};
 ghost use Rattle.text.specs.Text.{Writes};
-ghost use Rattle.netpbm.specs.Inner.{inClass};
-ghost use Rattle.netpbm.specs.Header.{isSpace, runLength, fieldAt, judged, hasLetters, headerIn, headerOf, numberOf, valuesOf, headerText};
+ghost use Rattle.netpbm.specs.Header.{fieldAt, judged, hasLetters, headerIn, headerOf, numberOf, valuesOf, headerText};
+use scanning::Class;
 
 // A header has at most so many bytes.
 pub const HEADER_LIMIT: usize = 64;
@@ -37,33 +37,10 @@ pub enum Reading {
     OtherSize,
 }
 
-// The classes of bytes that a header's fields are made of.
-enum Class {
-    Space,
-    Digit,
-}
-
 // A field of the header: its number and the place after it, or none where the field is malformed.
 enum Field {
     Number(u32, usize),
     NoNumber,
-}
-
-// Space, tab, LF, VT, FF, CR.
-fn is_space(b: u8) -> bool
-    ensures { λ r. ⌜ r ≡ isSpace b ⌝ }
-{
-    if b == b' ' {
-        return true;
-    }
-    // the other five follow one another
-    if b < b'\t' {
-        return false;
-    }
-    if b'\r' < b {
-        return false;
-    }
-    true
 }
 
 // The byte at a place. Past the end it is 0, which is no letter, no digit and no white space.
@@ -76,46 +53,23 @@ fn byte_at(bytes: &[u8], place: usize) -> u8
     bytes[place]
 }
 
-// Whether a byte is of the class.
-fn in_class(class: Class, b: u8) -> bool
-    ensures { λ r. ⌜ r ≡ inClass class b ⌝ }
-{
-    match class {
-        Class::Space => is_space(b),
-        Class::Digit => text::is_digit(b),
-    }
-}
-
-// The place after the bytes of the class that stand at `place`.
-fn run_end(class: Class, bytes: &[u8], place: usize) -> usize
-    ensures { λ r. ⌜ r ≡ place + runLength (inClass class) (drop place (now (bytes .entry))) ⌝ }
-{
-    let mut end = place;
-    while end < bytes.len() {
-        if !in_class(class, bytes[end]) {
-            return end;
-        }
-        end += 1;
-    }
-    end
-}
-
 // The field that begins at `place`.
 fn read_field(bytes: &[u8], place: usize) -> Field
     ensures { λ r. ⌜ r ≡ fieldAt (now (bytes .entry)) place ⌝ }
 {
-    let first = run_end(Class::Space, bytes, place);
+    let first = scanning::run_end(Class::Space, bytes, place);
     if first == place {
         return Field::NoNumber;
     }
-    let end = run_end(Class::Digit, bytes, first);
+    let end = scanning::run_end(Class::Digit, bytes, first);
     if end == first {
         return Field::NoNumber;
     }
     if DIGIT_LIMIT < end - first {
         return Field::NoNumber;
     }
-    Field::Number(text::read_decimal(&bytes[first..end]), end)
+    let number = text::read_decimal(&bytes[first..end]) as u32;
+    Field::Number(number, end)
 }
 
 // Width times height. It may have more than 32 bits: 99999 times 99999 does.
@@ -172,7 +126,7 @@ fn read_within(bytes: &[u8]) -> Reading
     let Field::Number(largest, end) = read_field(bytes, end) else {
         return Reading::Malformed;
     };
-    if !is_space(byte_at(bytes, end)) {
+    if !scanning::is_space(byte_at(bytes, end)) {
         return Reading::Malformed;
     }
     judge(width, height, largest, end + 1)

@@ -8,7 +8,8 @@ use Rattle.pixel.specs.Move.{naikMurthy, yangLee, movedSample, moved}
 use Rattle.curve.specs.Curve.{shareCount, fullCount, cubeEntry, withEnds, entry, toneCurve, curveOf}
 use Rattle.curve.specs.Nearest.{nearer, nearestPlace}
 use Rattle.colouring.specs.Colouring.{colouredStrip}
-use Rattle.netpbm.specs.Header.{runLength, fieldAt, headerIn, headerText}
+use Rattle.scanning.specs.Scanning.{runLength}
+use Rattle.netpbm.specs.Header.{fieldAt, headerIn, headerText}
 use Rattle.still.specs.Still.{balanced, picture, refusalLine, fileNumber, answer}
 use Rattle.still.specs.Examples.{examples, ExamplesHold}
 

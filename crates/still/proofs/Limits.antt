@@ -15,7 +15,8 @@ use Rattle.tables.proofs.Cases.{either}
 use Rattle.text.specs.Text.{writtenAt}
 use Rattle.text.specs.Decimal.{valueAfter}
 use Rattle.text.proofs.Runs.{length-written}
-use Rattle.netpbm.specs.Header.{headerLimit, runLength, fieldAt, headerIn, headerOf, numberOf}
+use Rattle.scanning.specs.Scanning.{runLength}
+use Rattle.netpbm.specs.Header.{headerLimit, fieldAt, headerIn, headerOf, numberOf}
 use Rattle.netpbm.specs.declared.Reading.{Reading}
 use Rattle.netpbm.specs.declared.Reading.the-variants.{Accepted, Malformed, OtherLargest, OtherSize}
 use Rattle.netpbm.proofs.Accepted.{accepted-headers-fit}

@@ -1,10 +1,10 @@
 -- Laws of decimal numbers.
-use mathlib.Core.Path.{_≡_, refl}
+use mathlib.Core.Path.{_≡_, refl, sym, ap, _∙_}
 use mathlib.Core.Bool.{true}
 use mathlib.Core.List.{List, [], _∷_, _++_}
 use mathlib.Core.Logic.{⊎-elim}
-use Prim.Native.Nat.{ℕ, zero, suc, _+_, _-_, _*_, _/_, _%_, _^_, _<_, _≤_}
-use native.Mathlib.Nat.{not-suc-le-zero, eq-or-lt-of-le, pow-suc}
+use Prim.Native.Nat.{ℕ, zero, suc, _+_, _-_, _*_, _/_, _%_, _^_, _<_, _≤_, zero-le, suc-le-suc}
+use native.Mathlib.Nat.{not-suc-le-zero, eq-or-lt-of-le, pow-suc, mul-le-mul-right, mul-assoc, mul-comm}
 use native.Mathlib.Omega.{arith}
 use borrow.Author.Tests.{leb-true, le-leb, lt-ltb, le-ltb}
 use lib.Dec.{leb}
@@ -40,6 +40,22 @@ value-more : (before : ℕ) (digits : List ℕ) (d : ℕ)
 unfolding valueAfter
 value-more before [] d = refl
 value-more before (digit ∷ digits) d = value-more (10 * before + (digit - zeroCode)) digits d
+
+-- a number so far, and k digits after it, stand for less than its successor times 10^k
+after-below : (before : ℕ) (digits : List ℕ) → Digits digits → valueAfter before digits < suc before * 10 ^ length digits
+unfolding valueAfter
+after-below before [] all = omega arith
+after-below before (digit ∷ digits) all =
+    let more = 10 * before + (digit - zeroCode) in
+    let most : suc more * 10 ^ length digits ≤ suc before * 10 * 10 ^ length digits =
+    mul-le-mul-right (10 ^ length digits) (omega (arith, digit-range digit (all 0 (suc-le-suc zero-le)) .1)) in
+    let same : suc before * 10 * 10 ^ length digits ≡ suc before * 10 ^ suc (length digits) =
+    mul-assoc (suc before) 10 (10 ^ length digits) ∙ ap (λ (n : ℕ). suc before * n) (mul-comm 10 (10 ^ length digits) ∙ sym (pow-suc 10 (length digits))) in
+    omega (arith, after-below more digits (λ i less. all (suc i) (suc-le-suc less)), most, same)
+
+-- k digits stand for less than 10^k
+pub value-below : (digits : List ℕ) → Digits digits → value digits < 10 ^ length digits
+value-below digits all = omega (arith, after-below 0 digits all)
 
 tenth : (k n : ℕ) → n < 10 ^ suc k → n / 10 < 10 ^ k
 tenth k n less = omega (arith, pow-suc 10 k)

@@ -28,9 +28,9 @@ module _ {digits : List ℕ} {i number : ℕ} (sofar : ReadTo digits i number) w
     rest = rw same (rw (drop-cons digits i 0) at (sofar .rest));
   }
 
-  -- nine digits fit
-  pub read-fits : length digits ≤ 9 → i < length digits → 10 * number + 9 < 10 ^ 9
-  read-fits few less = omega (arith, pow-le-pow-right {n = 10} (omega arith) {i = i} {j = 8} (omega arith))
+  -- 19 digits fit
+  pub read-fits : length digits ≤ 19 → i < length digits → 10 * number + 9 < 10 ^ 19
+  read-fits few less = omega (arith, pow-le-pow-right {n = 10} (omega arith) {i = i} {j = 18} (omega arith))
 
   pub read-end : length digits ≤ i → number ≡ value digits
   unfolding valueAfter

@@ -14,11 +14,11 @@ pub fn is_digit(b: u8) -> bool
 }
 
 // The number that a digit stands for.
-fn digit_value(b: u8) -> u32
+fn digit_value(b: u8) -> u64
     requires { ⌜ isDigit b ≡ true ⌝ }
     ensures { λ r. ⌜ (r ≡ b - zeroCode) × (r ≤ 9) ⌝ }
 {
-    (b - b'0') as u32
+    (b - b'0') as u64
 }
 
 // The digit that stands for a number below ten.
@@ -29,12 +29,12 @@ fn digit_code(d: u64) -> u8
     b'0' + d as u8
 }
 
-// The number that at most nine digits stand for: so many fit 32 bits.
-pub fn read_decimal(digits: &[u8]) -> u32
-    requires { ⌜ (length (now digits) ≤ 9) × Digits (now digits) ⌝ }
+// The number that at most 19 digits stand for: so many fit 64 bits.
+pub fn read_decimal(digits: &[u8]) -> u64
+    requires { ⌜ (length (now digits) ≤ 19) × Digits (now digits) ⌝ }
     ensures { λ r. ⌜ r ≡ value (now (digits .entry)) ⌝ }
 {
-    let mut number: u32 = 0;
+    let mut number: u64 = 0;
     let mut i: usize = 0;
     while i < digits.len() {
         number = 10 * number + digit_value(digits[i]);

@@ -7,7 +7,7 @@ use borrow.Author.Needs.{needs}
 use lib.ListN.{length}
 use Rattle.text.specs.Decimal.{Digits, value}
 use Rattle.netpbm.specs.declared.Field.the-variants.{Number}
-use Rattle.netpbm.proofs.Fields.{spacesAt, digitsAt, endAt, field-number, field-none, length-numeral, numeral-digits, end-within, scan-end, scan-numeral}
+use Rattle.netpbm.proofs.Fields.{spacesAt, digitsAt, endAt, field-number, field-none, numeralAt, length-numeral, numeral-digits, small-number, end-within, scan-end, scan-numeral}
 use Rattle.netpbm.proofs.read_field.Statement.{statement}
 use Rattle.netpbm.proofs.read_field.Tie as tie
 
@@ -59,22 +59,29 @@ read-decimal-requires c κs =
     let checked = c .before in
     let scanned = checked .before .before in
     let start = scanned .before .before .before .before .args in
-    subst (λ (digits : List ℕ). (length digits ≤ 9) × Digits digits)
+    subst (λ (digits : List ℕ). (length digits ≤ 19) × Digits digits)
     (sym (scan-numeral _ _ _ _ (scanned .before .before .run-end .ensures) (scanned .run-end2 .ensures)))
     (omega (arith, length-numeral (start .bytes .now) (start .place), sizes checked), numeral-digits _ _)
 
 -- what the digits give is the field's number,
+number : (c : tie.After-read-decimal) → let start = c .before .before .before .before .before .before .before .before .args in
+    c .read-decimal .result ≡ value (numeralAt (start .bytes .now) (start .place))
+number c =
+    let scanned = c .before .before .before .before in
+    c .read-decimal .ensures
+    ∙ ap value (scan-numeral _ _ _ _ (scanned .before .before .run-end .ensures) (scanned .run-end2 .ensures))
+
+cast-number : tie.Need-cast-number
+cast-number c =
+    let (spaces, some, most) = sizes (c .before .before) in
+    omega (arith, number c, small-number _ _ most)
+
 -- and where they end the field does
 returns-4 : tie.Need-returns-4
 returns-4 c =
     let checked = c .before .before in
-    let scanned = checked .before .before in
     let (spaces, some, most) = sizes checked in
-    ap₂ Number
-    (c .read-decimal .ensures
-    ∙ ap value (scan-numeral _ _ _ _ (scanned .before .before .run-end .ensures) (scanned .run-end2 .ensures)))
-    (ends scanned)
-    ∙ sym (field-number _ _ spaces some most)
+    ap₂ Number (number c) (ends (checked .before .before)) ∙ sym (field-number _ _ spaces some most)
 
 pub read-field-spec : {M : Type 1} → statement M
 read-field-spec =
@@ -90,4 +97,5 @@ read-field-spec =
     part-read-decimal-start
     part-read-decimal-end
     read-decimal-requires
+    cast-number
     returns-4)

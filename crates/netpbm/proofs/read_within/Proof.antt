@@ -6,7 +6,8 @@ use native.Mathlib.Omega.{arith}
 use borrow.Author.Needs.{needs}
 use borrow.Author.Tests.{not-true, not-false}
 use Rattle.tables.specs.Table.{at}
-use Rattle.netpbm.specs.Header.{isSpace, fieldAt, judged, hasLetters, headerIn}
+use Rattle.scanning.specs.Scanning.{isSpace}
+use Rattle.netpbm.specs.Header.{fieldAt, judged, hasLetters, headerIn}
 use Rattle.netpbm.specs.declared.Field.the-variants.{Number}
 use Rattle.netpbm.specs.declared.Reading.the-variants.{Malformed}
 use Rattle.netpbm.proofs.Fields.{last-decides}

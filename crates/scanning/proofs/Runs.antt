@@ -10,7 +10,7 @@ use lib.ListN.{length, take, drop, drop-of-length-le}
 use lib.Seq.{drop-cons, length-take-le, getD-take}
 use borrow.Table.Steps.{cases}
 use Rattle.tables.specs.Table.{at}
-use Rattle.netpbm.specs.Header.{runLength}
+use Rattle.scanning.specs.Scanning.{runLength}
 
 module _ (test : ℕ → Bool) where
   run-in : (b : ℕ) (bytes : List ℕ) → test b ≡ true → runLength test (b ∷ bytes) ≡ suc (runLength test bytes)

@@ -1,10 +1,10 @@
--- `netpbm::is_space` meets its contract.
+-- `scanning::is_space` meets its contract.
 use mathlib.Core.Path.{sym}
 use borrow.Author.Tests.{eq-eqb}
 use native.Mathlib.Omega.{arith}
-use Rattle.netpbm.proofs.Bytes.{control-space, not-space}
-use Rattle.netpbm.proofs.is_space.Statement.{statement}
-use Rattle.netpbm.proofs.is_space.Tie as tie
+use Rattle.scanning.proofs.Spaces.{control-space, not-space}
+use Rattle.scanning.proofs.is_space.Statement.{statement}
+use Rattle.scanning.proofs.is_space.Tie as tie
 
 returns : tie.Need-returns
 returns c = simp (eq-eqb _ _ (c .if1 .taken))

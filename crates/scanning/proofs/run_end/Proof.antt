@@ -1,13 +1,13 @@
--- `netpbm::run_end` meets its contract.
+-- `scanning::run_end` meets its contract.
 use mathlib.Core.Path.{refl, sym, _∙_}
 use borrow.Author.Tests.{not-true, not-false}
 use Prim.Native.Nat.{_-_}
 use lib.ListN.{length}
-use Rattle.netpbm.specs.Inner.{inClass}
-use Rattle.netpbm.proofs.Runs.{Running, running-more, running-stop, running-end}
+use Rattle.scanning.specs.Scanning.{inClass}
+use Rattle.scanning.proofs.Runs.{Running, running-more, running-stop, running-end}
 use borrow.Author.Needs.{needs}
-use Rattle.netpbm.proofs.run_end.Statement.{statement}
-use Rattle.netpbm.proofs.run_end.Tie as tie
+use Rattle.scanning.proofs.run_end.Statement.{statement}
+use Rattle.scanning.proofs.run_end.Tie as tie
 
 abbrev Inv-loop : tie.InvT-loop
 Inv-loop class bytes place end₀ end = Running (inClass class) bytes place end

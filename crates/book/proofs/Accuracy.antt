@@ -39,7 +39,7 @@ rest : {s u t : Step} {steps before : List Step} → Occurs (s ∷ steps) (u ∷
 rest o = record { after = o .after; split = cons-tail (o .split) }
 
 -- each call hands back or leaves a shot that came from the calls
-reachable-step : {x : Shot} → Reachable x → (c : Call) → WellFormed c → Reachable (step x c .answer .shot)
+pub reachable-step : {x : Shot} → Reachable x → (c : Call) → WellFormed c → Reachable (step x c .answer .shot)
 unfolding coloured
 reachable-step r opening ok = byOpening
 reachable-step r (measuring strip) ok = byMeasuring r strip ok

@@ -42,7 +42,7 @@ module _ (test : ℕ → Bool) where
       cases (test b) (λ e. rw (run-in b bytes e) (suc-le-suc (run-within bytes))) (λ e. rw (run-out b bytes e) zero-le)
 
   -- each byte of the run passes
-  run-passes : (bytes : List ℕ) (i : ℕ) → i < runLength test bytes → test (at bytes i) ≡ true
+  pub run-passes : (bytes : List ℕ) (i : ℕ) → i < runLength test bytes → test (at bytes i) ≡ true
   run-passes [] i h = absurd (not-suc-le-zero (subst (λ n. i < n) run-nil h))
   run-passes (b ∷ bytes) zero h = cases (test b) (λ e. e) (λ e. absurd (not-suc-le-zero (subst (λ n. 0 < n) (run-out b bytes e) h)))
   run-passes (b ∷ bytes) (suc i) h =

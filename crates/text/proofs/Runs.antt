@@ -78,7 +78,7 @@ module _ (place : ℕ) (text run : List ℕ) where
 
 -- Pieces of text, written one after the other.
 module _ {place end : ℕ} {text run output : List ℕ} (wrote : Writes place text run end output) where
-  writes-length : end ≤ length run → length output ≡ length run
+  pub writes-length : end ≤ length run → length output ≡ length run
   writes-length fits = ap length (wrote .holds) ∙ length-written place text run (omega (arith, wrote .ends))
 
   -- so there is room after the text for n bytes more
@@ -94,6 +94,11 @@ module _ {place end : ℕ} {text run output : List ℕ} (wrote : Writes place te
         ∙ ap₂ (λ (n : ℕ) (o : List ℕ). writtenAt n more o) (wrote .ends) (wrote .holds)
         ∙ written-more place text run more fits;
   }
+
+-- text at the start of a run is the run's front
+pub writes-front : {end : ℕ} {text run output : List ℕ} → Writes 0 text run end output → take end output ≡ text
+writes-front {end} {text} {run} wrote =
+    ap (take end) (wrote .holds) ∙ take-at text (drop (0 + length text) run) end (omega (arith, wrote .ends))
 
 -- a part of the run, written over by a piece as long as it is
 pub part-writes : (first end : ℕ) (piece run : List ℕ) → first ≤ end → length piece ≡ end - first

@@ -1,0 +1,3 @@
+pub mod Words
+pub mod Numerals
+pub mod Calls

@@ -1,6 +1,7 @@
 # shellcheck shell=bash
-# What bin/balance and bin/library share: each builds its product where that is missing or older than its sources. They source this
-# file, which nobody runs, and are then in the project's folder. It speaks on standard error, since standard output is theirs.
+# What bin/balance, bin/replay and bin/library share: each builds its product where that is missing or older than its sources. They
+# source this file, which nobody runs, and are then in the project's folder. It speaks on standard error, since standard output is
+# theirs.
 script=$(realpath "$0")
 cd "$(dirname "$script")/.."
 script=bin/$(basename "$script")
@@ -32,7 +33,7 @@ bring_up_to_date() {
 Put the Rattle kit's rt on the path; README.md, \"Try it\", says which kit was used."
     say "building $product, which takes one to three minutes"
     started=$(date +%s.%N)
-    # standard input may be an image, so rt gets none of it
+    # standard input is the program's, so rt gets none of it
     if ! said=$(rt "$@" </dev/null 2>&1); then
         printf '%s\n' "$said" >&2
         fail "rt $* failed"
@@ -46,4 +47,15 @@ Put the Rattle kit's rt on the path; README.md, \"Try it\", says which kit was u
     fi
     # The time of the start: a source that was changed meanwhile is newer, and a product that rt left as it was is up to date.
     touch -d "@$started" "$product"
+}
+
+# start_program WHAT USE ARGUMENT...: starts the program that the script is named after, once it is up to date. It takes no argument, and
+# reads what it is given from standard input.
+start_program() {
+    local name=${script#bin/} what=$1 use=$2 program
+    shift 2
+    program=target/bin/$name
+    [ $# -eq 0 ] || fail "takes no argument, $what comes on standard input: $use"
+    bring_up_to_date "$program" "$program" check "$name"
+    exec "$program"
 }

@@ -10,8 +10,8 @@ use Rattle.text.proofs.Decimal.{decimal-means}
 use Rattle.text.proofs.Runs.{writes-room, writes-length}
 use Rattle.hexadecimal.specs.Hexadecimal.{encoded}
 use Rattle.hexadecimal.proofs.Hexadecimal.{length-encoded}
-use Rattle.script.specs.declared.Fault.{Fault}
-use Rattle.script.specs.declared.Fault.the-variants.{TooLong, NoSuchCall, TooFewWords, TooManyWords, NotANumber, NoSuchShot, NotPairs, NotAPixel}
+use Rattle.words.specs.declared.Fault.{Fault}
+use Rattle.words.specs.declared.Fault.the-variants.{TooLong, NoSuchCall, TooFewWords, TooManyWords, NotANumber, NoSuchShot, NotPairs, NotAPixel}
 use Rattle.answers.specs.Answers.{stripText, reasonText, textLimit, WritesAnswer}
 
 -- a number of 64 bits has at most 20 digits

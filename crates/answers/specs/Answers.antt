@@ -5,8 +5,8 @@ use Rattle.text.specs.Decimal.{decimal}
 use Rattle.text.specs.Text.{ascii, Writes}
 use Rattle.hexadecimal.specs.Hexadecimal.{encoded}
 use Rattle.script.specs.Script.{lineLimit}
-use Rattle.script.specs.declared.Fault.{Fault}
-use Rattle.script.specs.declared.Fault.the-variants.{TooLong, NoSuchCall, TooFewWords, TooManyWords, NotANumber, NoSuchShot, NotPairs, NotAPixel}
+use Rattle.words.specs.declared.Fault.{Fault}
+use Rattle.words.specs.declared.Fault.the-variants.{TooLong, NoSuchCall, TooFewWords, TooManyWords, NotANumber, NoSuchShot, NotPairs, NotAPixel}
 
 -- The answer of open, measure and fix: the number.
 abbrev pub numberText : ℕ → List ℕ

@@ -3,7 +3,7 @@ ghost use Prim.Native.Nat.{_+_, _≤_};
 ghost use lib.ListN.{length};
 ghost use Rattle.text.specs.Text.{Writes};
 ghost use Rattle.answers.specs.Answers.{byteLimit, textLimit, numberText, stripText, bytesText, reasonText, faultText, WritesAnswer};
-use script::Fault;
+use words::Fault;
 
 // The most bytes that an answer has in digits: a line has two digits for each.
 pub const BYTE_LIMIT: usize = script::LINE_LIMIT / 2;

@@ -1,2 +1,3 @@
 pub mod Premise
 pub mod Replies
+pub mod Lists

@@ -6,7 +6,7 @@ use borrow.Table.Steps.{cases}
 use lib.Dec.{eqb}
 use Rattle.hexadecimal.specs.Hexadecimal.{decoded}
 use Rattle.hexadecimal.proofs.Hexadecimal.{decoded-small}
-use Rattle.script.specs.Script.{wordIn}
+use Rattle.words.specs.Words.{wordIn}
 use Rattle.script.specs.declared.Command.{Command}
 use Rattle.script.specs.declared.Command.the-variants.{Open, Measure, Fix, Colour, Move}
 use Rattle.shot.specs.Reachable.{Reachable, Reachable.byOpening}

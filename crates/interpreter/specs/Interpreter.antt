@@ -5,7 +5,7 @@ use mathlib.Core.List.{List, [], _∷_}
 use Prim.Native.Nat.{ℕ}
 use lib.Dec.{eqb}
 use Rattle.hexadecimal.specs.Hexadecimal.{decoded}
-use Rattle.script.specs.Script.{wordIn}
+use Rattle.words.specs.Words.{wordIn}
 use Rattle.answers.specs.Answers.{numberText, bytesText, WritesAnswer}
 use Rattle.script.specs.declared.Command.{Command}
 use Rattle.script.specs.declared.Command.the-variants.{Open, Measure, Fix, Colour, Move}

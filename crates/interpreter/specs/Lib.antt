@@ -1,1 +1,2 @@
 pub mod Interpreter
+pub mod Lists

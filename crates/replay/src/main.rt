@@ -12,8 +12,8 @@ use libc::STDIN_FILENO;
 use libc::STDOUT_FILENO;
 use scanning::Class;
 use script::Command;
-use script::Fault;
 use script::ScriptLine;
+use words::Fault;
 
 // Room for a line and its line feed: what fills it without one is a line that is too long.
 const ROOM: usize = script::LINE_LIMIT + 1;

@@ -14,21 +14,22 @@ use Rattle.hexadecimal.specs.Hexadecimal.{isPairs}
 use Rattle.scanning.specs.Scanning.{inClass, runLength, sameBytes}
 use Rattle.scanning.specs.declared.Class.the-variants.{Code}
 use Rattle.text.specs.Text.{ascii}
-use Rattle.script.specs.Script.{lineLimit, Within, wordAt, wordIn, isMissing, firstBad, goodIf, verdictOf, isPixel, isShot, numberAt, shotAt, digitsAt, endAt, once, openAt, measureAt, fixAt, colourAt, moveAt, nameOf, namedAt, callAt, withTimes, repeatedBy, textLine, lineOf, HasDigits, IsCall, HasCall, CallsAreDue}
-use Rattle.script.specs.declared.Word.{Word}
+use Rattle.words.specs.Words.{Within, wordAt, wordIn, isMissing, firstBad, goodIf, verdictOf, isPixel, isShot, numberAt, shotAt, digitsAt, endAt, HasDigits}
+use Rattle.script.specs.Script.{lineLimit, once, openAt, measureAt, fixAt, colourAt, moveAt, nameOf, namedAt, callAt, withTimes, repeatedBy, textLine, lineOf, IsCall, HasCall, CallsAreDue}
+use Rattle.words.specs.declared.Word.{Word}
 use Rattle.script.specs.declared.Command.{Command}
 use Rattle.script.specs.declared.Command.the-variants.{Open, Measure, Fix, Colour, Move}
-use Rattle.script.specs.declared.Due.{Due}
-use Rattle.script.specs.declared.Due.the-variants.{Strip, Pixel}
-use Rattle.script.specs.declared.Fault.{Fault}
-use Rattle.script.specs.declared.Fault.the-variants.{TooLong, NoSuchCall, TooFewWords, NoSuchShot, NotAPixel}
+use Rattle.words.specs.declared.Due.{Due}
+use Rattle.words.specs.declared.Due.the-variants.{Strip, Pixel}
+use Rattle.words.specs.declared.Fault.{Fault}
+use Rattle.words.specs.declared.Fault.the-variants.{TooLong, NoSuchCall, TooFewWords, NoSuchShot, NotAPixel}
 use Rattle.script.specs.declared.Name.{Name}
 use Rattle.script.specs.declared.Name.the-variants.{Open as IsOpen, Measure as IsMeasure, Fix as IsFix, Colour as IsColour, Move as IsMove, Other}
 use Rattle.script.specs.declared.ScriptLine.{ScriptLine}
 use Rattle.script.specs.declared.ScriptLine.the-variants.{Blank, Calls, NoCall}
-use Rattle.script.specs.declared.Verdict.{Verdict}
-use Rattle.script.specs.declared.Verdict.the-variants.{Good, Bad}
-use Rattle.script.proofs.Words.{word-within}
+use Rattle.words.specs.declared.Verdict.{Verdict}
+use Rattle.words.specs.declared.Verdict.the-variants.{Good, Bad}
+use Rattle.words.proofs.Places.{word-within}
 
 -- what is at fault is no call
 fault-no-call : {P : Type 0} (fault : Fault) (times : ℕ) (command : Command) → NoCall fault ≡ Calls times command → P

@@ -1,3 +1,3 @@
-pub mod Words
-pub mod Numerals
+pub mod Reading
 pub mod Calls
+pub mod Examples

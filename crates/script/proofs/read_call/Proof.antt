@@ -1,5 +1,6 @@
 -- `script::read_call` meets its contract.
-use Rattle.script.proofs.Words.{found-within, call-missing, call-found}
+use Rattle.words.proofs.Places.{found-within}
+use Rattle.script.proofs.Reading.{call-missing, call-found}
 use borrow.Author.Needs.{needs}
 use Rattle.script.proofs.read_call.Statement.{statement}
 use Rattle.script.proofs.read_call.Tie as tie

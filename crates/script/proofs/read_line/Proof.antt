@@ -4,7 +4,7 @@ use lib.ListN.{length}
 use lib.Seq.{length-take-le}
 use Rattle.scanning.specs.Scanning.{inClass}
 use Rattle.scanning.specs.declared.Class.the-variants.{Code}
-use Rattle.script.proofs.Words.{run-ends}
+use Rattle.words.proofs.Places.{run-ends}
 use mathlib.Core.Path.{refl, sym, subst, _∙_}
 use native.Mathlib.Nat.{zero-add}
 use borrow.Author.Tests.{lt-ltb, le-ltb}

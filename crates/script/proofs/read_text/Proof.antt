@@ -1,5 +1,6 @@
 -- `script::read_text` meets its contract.
-use Rattle.script.proofs.Words.{found-within, line-blank, line-call, line-repeat}
+use Rattle.words.proofs.Places.{found-within}
+use Rattle.script.proofs.Reading.{line-blank, line-call, line-repeat}
 use mathlib.Core.Path.{sym, _∙_}
 use borrow.Author.Tests.{not-true, not-false}
 use borrow.Author.Needs.{needs}

@@ -55,7 +55,7 @@ def trust_faults(text, logs):
 
 def reports():
     """rt's reports on the programs and on the library for C."""
-    names = {"`balance`": "balance.out", "`frames`": "frames.out", "the library for C": "host.say"}
+    names = {"`balance`": "balance.out", "`replay`": "replay.out", "`frames`": "frames.out", "the library for C": "host.say"}
     return {said_as: read(LOGS / name) for said_as, name in names.items()}
 
 
@@ -85,10 +85,10 @@ def run(block, room):
 def command_faults(text):
     """What does not come out as README says."""
     own = blocks(text, "sh")
-    if len(own) != 3:
-        yield f"{README}: {len(own)} shell blocks, in place of: balance, refusal, C"
+    if len(own) != 4:
+        yield f"{README}: {len(own)} shell blocks, in place of: balance, refusal, C, replay"
         return
-    balance, refusal, c = own
+    balance, refusal, c, replay = own
     with tempfile.TemporaryDirectory() as folder:
         room = pathlib.Path(folder)
         for name in LINKED:
@@ -98,6 +98,10 @@ def command_faults(text):
         shown = re.search(r"prints `([^`]+)`", text)
         if status or not shown or out.splitlines()[-1:] != [shown.group(1)]:
             yield f"{README}: the C example ends with {status}, {out!r}, {err!r}"
+        status, out, err = run(replay, room)
+        answers = re.search(r"one answer a call: here ((?:`[^`]+`(?:, | and )?)+),", flowing(text))
+        if status or err or not answers or out.splitlines() != re.findall(r"`([^`]+)`", answers.group(1)):
+            yield f"{README}: the script is answered with {status}, {out!r}, {err!r}"
 
 
 def balance_faults(balance, refusal, room):

@@ -33,7 +33,7 @@ number-reply shots number call called here =
     ap (λ (a : Answer). kept shots number a (numberText (a .number))) (called ∙ ap (λ (x : Shot). step x call .answer) here)
 
 -- Digits decoded into a run that has room for their bytes: these are the run's front.
-module _ (digits : List ℕ) {run output : List ℕ} {end : ℕ} (fits : length digits / 2 ≤ length run) (wrote : Writes 0 (decoded digits) run end output) where
+module _ (digits : List ℕ) {run output : List ℕ} {end : ℕ} (wrote : Writes 0 (decoded digits) run end output) (fits : length digits / 2 ≤ length run) where
   pub decoded-within : end ≤ length output
   decoded-within = omega (arith, writes-room wrote 0 (omega (arith, wrote .ends, length-decoded digits)))
 

@@ -17,8 +17,13 @@ use Rattle.words.specs.declared.Verdict.the-variants.{Bad}
 use Rattle.words.specs.declared.Word.{Word}
 
 -- a run from a place within the line ends within it
-pub run-ends : (test : ℕ → Bool) (line : List ℕ) (place : ℕ) → place ≤ length line → place + runLength test (drop place line) ≤ length line
+run-ends : (test : ℕ → Bool) (line : List ℕ) (place : ℕ) → place ≤ length line → place + runLength test (drop place line) ≤ length line
 run-ends test line place within = omega (arith, run-within test (drop place line), length-drop place line)
+
+-- so does what a scan found
+pub scan-within : (test : ℕ → Bool) (line : List ℕ) {place end : ℕ} → end ≡ place + runLength test (drop place line) → place ≤ length line
+    → end ≤ length line
+scan-within test line {place} found within = subst (λ (n : ℕ). n ≤ length line) (sym found) (run-ends test line place within)
 
 module _ (line : List ℕ) (place : ℕ) where
   pub word-none : length line ≤ place → wordAt line place ≡ record { start = length line; end = length line }

@@ -20,13 +20,21 @@ pub struct Word {
 
 // Why a line is no call.
 pub enum Fault {
+    // The line has more bytes than a line may have.
     TooLong,
+    // The word that has to name a call names none.
     NoSuchCall,
+    // A word is missing.
     TooFewWords,
+    // A word is left.
     TooManyWords,
+    // A word that has to be a number is none.
     NotANumber,
+    // A number that has to be a shot's is none.
     NoSuchShot,
+    // A word that has to be bytes is neither pairs of hexadecimal digits nor -.
     NotPairs,
+    // A word that has to be a pixel is not six hexadecimal digits.
     NotAPixel,
 }
 
@@ -107,7 +115,7 @@ pub fn first_bad(first: Verdict, second: Verdict) -> Verdict
 }
 
 // Good if so, else at fault.
-pub fn good_if(so: bool, fault: Fault) -> Verdict
+fn good_if(so: bool, fault: Fault) -> Verdict
     ensures { λ r. ⌜ r ≡ goodIf so fault ⌝ }
 {
     if so {

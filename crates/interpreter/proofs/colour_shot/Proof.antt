@@ -26,16 +26,16 @@ decode-requires-2 : tie.Need-decode-requires-2
 decode-requires-2 c κs = search needs
 
 array-share-prefix-from : tie.Need-array-share-prefix-from
-array-share-prefix-from c = decoded-within (c .before .before .before .before .before .before .before .before .before .args .source .now) (search needs) (c .before .before .before .before .decode .ensures)
+array-share-prefix-from c = decoded-within _ (c .before .before .before .before .decode .ensures) (search needs)
 
 slice-aggregate-colour-bytes : tie.Need-slice-aggregate-colour-bytes
-slice-aggregate-colour-bytes c = decoded-length (c .before .before .before .before .before .before .before .before .before .before .args .source .now) (search needs) (c .before .before .before .before .before .decode .ensures)
+slice-aggregate-colour-bytes c = decoded-length _ (c .before .before .before .before .before .decode .ensures) (search needs)
 
 array-borrow-prefix-to : tie.Need-array-borrow-prefix-to
-array-borrow-prefix-to c = decoded-within (c .before .before .before .before .before .before .before .before .before .before .args .destination .now) (search needs) (c .before .before .decode2 .ensures)
+array-borrow-prefix-to c = decoded-within _ (c .before .before .decode2 .ensures) (search needs)
 
 slice-aggregate-colour-bytes-2 : tie.Need-slice-aggregate-colour-bytes-2
-slice-aggregate-colour-bytes-2 c = decoded-length (c .before .before .before .before .before .before .before .before .before .before .before .args .destination .now) (search needs) (c .before .before .before .decode2 .ensures)
+slice-aggregate-colour-bytes-2 c = decoded-length _ (c .before .before .before .decode2 .ensures) (search needs)
 
 colour-bytes-requires : tie.Need-colour-bytes-requires
 colour-bytes-requires c κs =

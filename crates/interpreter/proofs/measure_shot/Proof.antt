@@ -23,10 +23,10 @@ shot-of-requires : tie.Need-shot-of-requires
 shot-of-requires c κs = search needs
 
 array-share-prefix-bytes : tie.Need-array-share-prefix-bytes
-array-share-prefix-bytes c = decoded-within (c .before .before .before .before .before .before .args .strip .now) (search needs) (c .before .before .decode .ensures)
+array-share-prefix-bytes c = decoded-within _ (c .before .before .decode .ensures) (search needs)
 
 slice-aggregate-measure : tie.Need-slice-aggregate-measure
-slice-aggregate-measure c = decoded-length (c .before .before .before .before .before .before .before .args .strip .now) (search needs) (c .before .before .before .decode .ensures)
+slice-aggregate-measure c = decoded-length _ (c .before .before .before .decode .ensures) (search needs)
 
 measure-requires : tie.Need-measure-requires
 measure-requires c κs = subst Reachable (sym (c .before .shot-of .ensures)) (shot-reachable (c .before .before .before .before .before .before .before .pre .0) (c .before .before .before .before .before .before .before .args .number))

@@ -24,10 +24,10 @@ decode-requires : tie.Need-decode-requires
 decode-requires c κs = search needs
 
 array-share-prefix-bytes : tie.Need-array-share-prefix-bytes
-array-share-prefix-bytes c = decoded-within (c .before .before .before .before .before .args .pixel .now) (search needs) (c .before .decode .ensures)
+array-share-prefix-bytes c = decoded-within _ (c .before .decode .ensures) (search needs)
 
 slice-aggregate-read-pixel : tie.Need-slice-aggregate-read-pixel
-slice-aggregate-read-pixel c = decoded-length (c .before .before .before .before .before .before .args .pixel .now) (search needs) (c .before .before .decode .ensures)
+slice-aggregate-read-pixel c = decoded-length _ (c .before .before .decode .ensures) (search needs)
 
 read-pixel-requires : tie.Need-read-pixel-requires
 read-pixel-requires c κs =

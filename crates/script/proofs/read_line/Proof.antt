@@ -1,11 +1,8 @@
 -- `script::read_line` meets its contract.
-use Prim.Native.Nat.{ℕ, _≤_, zero-le}
-use lib.ListN.{length}
+use Prim.Native.Nat.{zero-le}
 use lib.Seq.{length-take-le}
-use Rattle.scanning.specs.Scanning.{inClass}
-use Rattle.scanning.specs.declared.Class.the-variants.{Code}
-use Rattle.words.proofs.Places.{run-ends}
-use mathlib.Core.Path.{refl, sym, subst, _∙_}
+use Rattle.words.proofs.Places.{scan-within}
+use mathlib.Core.Path.{refl, sym, _∙_}
 use native.Mathlib.Nat.{zero-add}
 use borrow.Author.Tests.{lt-ltb, le-ltb}
 use Rattle.script.specs.Script.{lineOf}
@@ -23,7 +20,7 @@ run-end-requires c κs = search needs
 slice-aggregate-read-text : tie.Need-slice-aggregate-read-text
 slice-aggregate-read-text c =
     let line = c .before .before .before .before .args .line .now in
-    sym (length-take-le _ line (subst (λ (n : ℕ). n ≤ length line) (sym (c .before .run-end .ensures)) (run-ends (inClass Code) line 0 zero-le)))
+    sym (length-take-le _ line (scan-within _ line (c .before .run-end .ensures) zero-le))
 
 read-text-requires : tie.Need-read-text-requires
 read-text-requires c κs = search needs

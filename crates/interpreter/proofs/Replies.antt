@@ -6,10 +6,11 @@ use native.Mathlib.Omega.{arith}
 use lib.ListN.{length, take}
 use lib.Seq.{length-take-le}
 use Rattle.text.specs.Text.{Writes}
-use Rattle.text.proofs.Runs.{writes-room}
+use Rattle.text.proofs.Runs.{writes-room, writes-front}
 use Rattle.hexadecimal.specs.Hexadecimal.{decoded}
 use Rattle.hexadecimal.proofs.Hexadecimal.{length-decoded}
-use Rattle.answers.specs.Answers.{numberText}
+use Rattle.script.specs.Script.{lineLimit}
+use Rattle.answers.specs.Answers.{byteLimit, numberText}
 use Rattle.shot.specs.declared.Answer.{Answer}
 use Rattle.shot.specs.declared.Shot.{Shot}
 use Rattle.book.specs.Book.{Call}
@@ -39,3 +40,7 @@ module _ (digits : List ℕ) {run output : List ℕ} {end : ℕ} (wrote : Writes
 
   pub decoded-length : end ≡ length (take end output)
   decoded-length = sym (length-take-le end output decoded-within)
+
+  -- what a line brings is no more than an answer can hold
+  pub decoded-short : length digits ≤ lineLimit → length (take end output) ≤ byteLimit
+  decoded-short few = omega (arith, ap length (writes-front wrote), length-decoded digits)

@@ -1,7 +1,7 @@
 // The header of a Netpbm P6 image, read and written (document 01, "Frames from a file"). No other crate knows its form.
 ghost use mathlib.Core.Path.{_≡_};
 ghost use Prim.Native.Nat.{_+_, _*_, _≤_};
-ghost use lib.ListN.{length, drop};
+ghost use lib.ListN.{length};
 ghost use Rattle.tables.specs.Table.{at};
 ghost use Rattle.text.specs.Text.{Writes};
 ghost use Rattle.netpbm.specs.Header.{fieldAt, judged, hasLetters, headerIn, headerOf, numberOf, valuesOf, headerText};

@@ -15,7 +15,7 @@ use Rattle.scanning.specs.Scanning.{inClass, runLength, sameBytes}
 use Rattle.scanning.specs.declared.Class.the-variants.{Code}
 use Rattle.text.specs.Text.{ascii}
 use Rattle.words.specs.Words.{Within, wordAt, wordIn, isMissing, firstBad, goodIf, verdictOf, isPixel, isShot, numberAt, shotAt, digitsAt, endAt, HasDigits}
-use Rattle.script.specs.Script.{lineLimit, once, openAt, measureAt, fixAt, colourAt, moveAt, nameOf, namedAt, callAt, withTimes, repeatedBy, textLine, lineOf, IsCall, HasCall, CallsAreDue}
+use Rattle.script.specs.Script.{lineLimit, once, openAt, measureAt, fixAt, colourAt, moveAt, nameOf, namedAt, callAt, withTimes, repeatedBy, textLine, lineOf, IsCall, CallsAreDue}
 use Rattle.words.specs.declared.Word.{Word}
 use Rattle.script.specs.declared.Command.{Command}
 use Rattle.script.specs.declared.Command.the-variants.{Open, Measure, Fix, Colour, Move}

@@ -1,10 +1,7 @@
 -- `interpreter::colour_shot` meets its contract.
-use native.Mathlib.Omega.{arith}
-use lib.ListN.{length}
-use Rattle.hexadecimal.proofs.Hexadecimal.{length-decoded}
-use Rattle.interpreter.proofs.Replies.{replied, decoded-within, decoded-length}
+use Rattle.interpreter.proofs.Replies.{replied, decoded-within, decoded-length, decoded-short}
 use Rattle.book.specs.Book.{Call.colouring}
-use mathlib.Core.Path.{ap, ap₂}
+use mathlib.Core.Path.{ap₂}
 use mathlib.Core.List.{List}
 use Prim.Native.Nat.{ℕ}
 use Rattle.text.proofs.Runs.{writes-front}
@@ -39,10 +36,8 @@ slice-aggregate-colour-bytes-2 c = decoded-length _ (c .before .before .before .
 
 colour-bytes-requires : tie.Need-colour-bytes-requires
 colour-bytes-requires c κs =
-    let start = c .before .before .before .before .before .before .before .before .before .before .before .before in (
-      start .pre .0,
-      (omega (arith, ap length (writes-front (c .before .before .before .before .decode2 .ensures)), length-decoded (start .args .destination .now), start .pre), search needs),
-    )
+    let start = c .before .before .before .before .before .before .before .before .before .before .before .before in
+    (start .pre .0, (decoded-short _ (c .before .before .before .before .decode2 .ensures) (search needs) (search needs), search needs))
 
 same-length : tie.Need-same-length
 same-length c = search needs

@@ -1,6 +1,6 @@
 -- `words::word_at` meets its contract.
 use Rattle.words.proofs.Places.{word-none, word-some}
-use mathlib.Core.Path.{sym, refl, _∙_}
+use mathlib.Core.Path.{sym, refl}
 use borrow.Author.Needs.{needs}
 use Rattle.words.proofs.word_at.Statement.{statement}
 use Rattle.words.proofs.word_at.Tie as tie

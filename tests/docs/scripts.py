@@ -41,8 +41,9 @@ def limits():
     return (
         f"at most {line:,} bytes",
         f"| `longer than {line} bytes` |",
-        f"the numbers 1 to {last},",
-        f"0 to {largest}, in 1 to {digits} decimal digits",
+        f"SHOT is 1 to {last}:",
+        f"are 0 to {largest}. Numbers, SHOT too, have 1 to {digits} decimal digits",
+        f"room for {(line - len('measure 1 ')) // 6:,} pixels and a `colour` line for {(line - len('colour 1 2  ')) // 12:,};",
         f"| `not a number from 0 to {largest}` |",
     )
 
@@ -71,7 +72,7 @@ def main():
     selftest()
     text = read(PAGE)
     faults = word_faults(table(PAGE, ["line", "makes the call"]).rows, read(SCRIPT))
-    faults += reason_faults(table(PAGE, ["the reason", "what is wrong"]).rows, read(ANSWERS))
+    faults += reason_faults(table(PAGE, ["REASON", "what is wrong"]).rows, read(ANSWERS))
     faults += [f"{PAGE} does not say: {words}" for words in limits() if words not in " ".join(text.split())]
     faults += worked_faults(text)
     sys.exit(report("scripts", f"{len(read(WORKED[0]).splitlines())} lines", faults))

@@ -1,7 +1,8 @@
 -- The shots of a script, and the lists of their own.
 use mathlib.Core.Path.{_≡_, refl, sym, ap, subst, _∙_}
 use mathlib.Core.Bool.{true, cond}
-use mathlib.Core.List.{List, [], _∷_, _++_, List·Memᴰ·head, List·Memᴰ·tail}
+use mathlib.Core.List.{List, [], _∷_, _++_, map, List·Memᴰ·head, List·Memᴰ·tail, List·Memᴰ·not-nil, List·Memᴰ·eq-of-singleton, List·Memᴰ·append-cases}
+use mathlib.Core.Logic.{⊎-elim}
 use Prim.Native.Nat.{ℕ, zero, suc, _+_, _-_, _≤_}
 use native.Mathlib.Omega.{arith}
 use borrow.Author.Tests.{leb-true, eqb-true}
@@ -9,19 +10,20 @@ use borrow.Table.Steps.{cases}
 use lib.Dec.{leb, eqb}
 use Rattle.tables.specs.Table.{_among_}
 use Rattle.tables.proofs.Cases.{both}
-use Rattle.hexadecimal.specs.Hexadecimal.{decoded}
-use Rattle.words.specs.Words.{wordIn, isShot}
+use Rattle.words.specs.Words.{isShot}
 use Rattle.script.specs.Script.{IsCall, HasCall}
 use Rattle.script.specs.declared.Command.{Command}
 use Rattle.script.specs.declared.Command.the-variants.{Open, Measure, Fix, Colour, Move}
 use Rattle.script.proofs.Calls.{calls-are-due}
-use Rattle.shot.specs.Shot.{opened, Outcome}
+use Rattle.shot.specs.Shot.{opened}
 use Rattle.shot.specs.declared.Shot.{Shot}
-use Rattle.book.specs.Book.{Call, Call.opening, Call.measuring, Call.fixing, Call.colouring}
-use Rattle.book.specs.Run.{step}
-use Rattle.interpreter.specs.Interpreter.{newShots, shotOf, withShot, numberAnswer, bytesAnswer, onShot, answerTo}
-use Rattle.interpreter.specs.Lists.{ScriptCall, shotsAfter, callIf, callOn, callsOn, shotAfter, ListsRunSideBySide}
+use Rattle.book.specs.Book.{Call, Book, emptyBook}
+use Rattle.book.specs.Run.{step, traceFrom, WellFormed}
+use Rattle.book.proofs.Accuracy.{accuracy}
+use Rattle.interpreter.specs.Interpreter.{newShots, shotOf, withShot, Request, Request.calling, Request.moving, requestIn, callText, onShot, replyTo, answerTo}
+use Rattle.interpreter.specs.Lists.{ScriptCall, shotsAfter, ifOn, callsOn, answersOn, shotAfter, stepText, ListsRunSideBySide}
 use Rattle.interpreter.specs.declared.Shots.{Shots}
+use Rattle.interpreter.proofs.Premise.{BringsBytes, brings-bytes}
 
 -- what holds of 1 to 4 holds of every shot's number
 by-shot : (P : ℕ → Type 0) → P 1 → P 2 → P 3 → P 4 → (n : ℕ) → isShot n ≡ true → P n
@@ -48,46 +50,111 @@ placed shots x shot number is there =
     shot
     is
 
-module _ (shots : Shots) (number : ℕ) (there : isShot number ≡ true) where
-  -- a call on a shot
-  on-shot : (shot : ℕ) (call : Call) (text : Outcome → List ℕ) → isShot shot ≡ true
-      → shotOf (onShot shots shot call text .shots) number ≡ shotAfter (shotOf shots number) (callIf (eqb shot number) call)
-  on-shot shot call text is =
-      let next = step (shotOf shots shot) call .answer .shot in
-      placed shots next shot number is there
+-- a request names a shot that there is
+abbrev NamesShot : Request → Type 0
+NamesShot (calling shot call) = isShot shot ≡ true
+NamesShot (moving method pixel target) = Unit {0}
+
+names-shot : (line : List ℕ) (command : Command) → IsCall line command → NamesShot (requestIn line command)
+names-shot line (Open shot) is = is
+names-shot line (Measure shot strip) (is, has) = is
+names-shot line (Fix shot choice) is = is
+names-shot line (Colour shot method source destination) (is, from, to) = is
+names-shot line (Move method pixel target) has = tt
+
+-- A list of calls, with what is told of its steps.
+abbrev texts : Shot → List Call → List (List ℕ)
+texts x [] = []
+texts x (call ∷ calls) = callText call (step x call) ∷ texts (step x call .answer .shot) calls
+
+texts-of-trace : (n : ℕ) (x : Shot) (b : Book) (calls : List Call) → texts x calls ≡ map stepText (traceFrom n x b calls)
+texts-of-trace n x b [] = refl
+texts-of-trace n x b (call ∷ calls) = ap (λ (ts : List (List ℕ)). callText call (step x call) ∷ ts) (texts-of-trace _ _ _ calls)
+
+-- One request, for the shot with a number: the shot after it, and what is told.
+module _ (number : ℕ) (there : isShot number ≡ true) (shots : Shots) where
+  call-shot : (shot : ℕ) (call : Call) → isShot shot ≡ true
+      → shotOf (onShot shots shot call .shots) number ≡ cond (eqb shot number) (step (shotOf shots number) call .answer .shot) (shotOf shots number)
+  call-shot shot call is =
+      placed shots (step (shotOf shots shot) call .answer .shot) shot number is there
       ∙ cases (eqb shot number)
       (λ same. rw same (ap (λ (s : ℕ). step (shotOf shots s) call .answer .shot) (eqb-true shot number same)))
       (λ other. rw other refl)
 
-  -- a call of a script
-  one-call : (line : List ℕ) (command : Command) → IsCall line command
-      → shotOf (answerTo line shots command .shots) number ≡ shotAfter (shotOf shots number) (callOn number line command)
-  one-call line (Open shot) is = on-shot shot opening numberAnswer is
-  one-call line (Measure shot strip) (is, has) = on-shot shot (measuring (decoded (wordIn line strip))) numberAnswer is
-  one-call line (Fix shot choice) is = on-shot shot (fixing choice) numberAnswer is
-  one-call line (Colour shot method source destination) (is, from, to) =
-      on-shot shot
-      (colouring (record { method = method; source = decoded (wordIn line source); destination = decoded (wordIn line destination) }))
-      bytesAnswer
-      is
-  one-call line (Move method pixel target) has = refl
+  -- the shot after a request and more calls
+  shot-on : (request : Request) → NamesShot request → (more : List Call)
+      → shotAfter (shotOf (replyTo shots request .shots) number) more
+      ≡ shotAfter (shotOf shots number) (ifOn number request (λ call. call) ++ more)
+  shot-on (calling shot call) is more =
+      ap (λ (x : Shot). shotAfter x more) (call-shot shot call is)
+      ∙ cases (eqb shot number) (λ same. rw same refl) (λ other. rw other refl)
+  shot-on (moving method pixel target) is more = refl
 
--- one list after another
-after-both : (x : Shot) (calls more : List Call) → shotAfter x (calls ++ more) ≡ shotAfter (shotAfter x calls) more
-after-both x [] more = refl
-after-both x (call ∷ calls) more = after-both (step x call .answer .shot) calls more
+  -- what is told of a request and of more calls
+  texts-on : (request : Request) → NamesShot request → (more : List Call)
+      → ifOn number request (λ call. replyTo shots request .text) ++ texts (shotOf (replyTo shots request .shots) number) more
+      ≡ texts (shotOf shots number) (ifOn number request (λ call. call) ++ more)
+  texts-on (calling shot call) is more =
+      ap (λ (x : Shot). ifOn number (calling shot call) (λ c. onShot shots shot call .text) ++ texts x more) (call-shot shot call is)
+      ∙ cases (eqb shot number)
+      (λ same. rw same (ap (λ (s : ℕ). callText call (step (shotOf shots s) call) ∷ texts (step (shotOf shots number) call .answer .shot) more) (eqb-true shot number same)))
+      (λ other. rw other refl)
+  texts-on (moving method pixel target) is more = refl
 
-side-by-side : (calls : List ScriptCall) → ((c : ScriptCall) → c among calls → HasCall (c .line) (c .command))
-    → (number : ℕ) → isShot number ≡ true → (shots : Shots)
-    → shotOf (shotsAfter shots calls) number ≡ shotAfter (shotOf shots number) (callsOn number calls)
-side-by-side [] read number there shots = refl
-side-by-side (c ∷ calls) read number there shots =
-    let due = calls-are-due .due (c .line) (c .command) (read c (List·Memᴰ·head refl)) in
-    side-by-side calls (λ d m. read d (List·Memᴰ·tail m)) number there (answerTo (c .line) shots (c .command) .shots)
-    ∙ ap (λ (x : Shot). shotAfter x (callsOn number calls)) (one-call shots number there (c .line) (c .command) due)
-    ∙ sym (after-both (shotOf shots number) (callOn number (c .line) (c .command)) (callsOn number calls))
+-- Every line of the calls is read as its command.
+abbrev Read : List ScriptCall → Type 0
+Read calls = (c : ScriptCall) → c among calls → HasCall (c .line) (c .command)
+
+module _ (number : ℕ) (there : isShot number ≡ true) where
+  names : (c : ScriptCall) → HasCall (c .line) (c .command) → NamesShot (requestIn (c .line) (c .command))
+  names c has = names-shot (c .line) (c .command) (calls-are-due .due (c .line) (c .command) has)
+
+  shots-follow : (calls : List ScriptCall) → Read calls → (shots : Shots)
+      → shotOf (shotsAfter shots calls) number ≡ shotAfter (shotOf shots number) (callsOn number calls)
+  shots-follow [] read shots = refl
+  shots-follow (c ∷ calls) read shots =
+      shots-follow calls (λ d m. read d (List·Memᴰ·tail m)) (answerTo (c .line) shots (c .command) .shots)
+      ∙ shot-on number there shots (requestIn (c .line) (c .command)) (names c (read c (List·Memᴰ·head refl))) (callsOn number calls)
+
+  answers-follow : (calls : List ScriptCall) → Read calls → (shots : Shots)
+      → answersOn number shots calls ≡ texts (shotOf shots number) (callsOn number calls)
+  answers-follow [] read shots = refl
+  answers-follow (c ∷ calls) read shots =
+      let request = requestIn (c .line) (c .command) in
+      let reply = replyTo shots request in
+      ap (λ (rest : List (List ℕ)). ifOn number request (λ call. reply .text) ++ rest)
+      (answers-follow calls (λ d m. read d (List·Memᴰ·tail m)) (reply .shots))
+      ∙ texts-on number there shots request (names c (read c (List·Memᴰ·head refl))) (callsOn number calls)
+
+  new-shot : shotOf newShots number ≡ opened
+  new-shot = by-shot (λ n. shotOf newShots n ≡ opened) refl refl refl refl number there
+
+-- every call of a shot's list brings bytes
+request-brings : (number : ℕ) (request : Request) → BringsBytes request → (call : Call) → call among ifOn number request (λ c. c)
+    → WellFormed call
+request-brings number (calling shot own) brings call member =
+    cases (eqb shot number)
+    (λ same. subst WellFormed (sym (List·Memᴰ·eq-of-singleton (rw same at member))) brings)
+    (λ other. absurd (List·Memᴰ·not-nil (rw other at member)))
+request-brings number (moving method pixel target) brings call member = absurd (List·Memᴰ·not-nil member)
+
+well-formed : (number : ℕ) (calls : List ScriptCall) (call : Call) → call among callsOn number calls → WellFormed call
+well-formed number [] call member = absurd (List·Memᴰ·not-nil member)
+well-formed number (c ∷ calls) call member =
+    let request = requestIn (c .line) (c .command) in
+    ⊎-elim
+    (request-brings number request (brings-bytes (c .line) (c .command)) call)
+    (well-formed number calls call)
+    (List·Memᴰ·append-cases (ifOn number request (λ d. d)) member)
 
 pub lists-run-side-by-side : ListsRunSideBySide
-lists-run-side-by-side calls read number there =
-    side-by-side calls read number there newShots
-    ∙ ap (λ (x : Shot). shotAfter x (callsOn number calls)) (by-shot (λ n. shotOf newShots n ≡ opened) refl refl refl refl number there)
+lists-run-side-by-side = record {
+  shots = λ calls read number there.
+      shots-follow number there calls read newShots
+      ∙ ap (λ (x : Shot). shotAfter x (callsOn number calls)) (new-shot number there);
+  answers = λ calls read number there.
+      answers-follow number there calls read newShots
+      ∙ ap (λ (x : Shot). texts x (callsOn number calls)) (new-shot number there)
+      ∙ texts-of-trace 0 opened emptyBook (callsOn number calls);
+  accurate = λ calls number. accuracy (callsOn number calls) (well-formed number calls);
+}

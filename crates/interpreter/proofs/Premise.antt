@@ -4,18 +4,15 @@ use mathlib.Core.List.{List}
 use Prim.Native.Nat.{ℕ}
 use borrow.Table.Steps.{cases}
 use lib.Dec.{eqb}
-use Rattle.hexadecimal.specs.Hexadecimal.{decoded}
 use Rattle.hexadecimal.proofs.Hexadecimal.{decoded-small}
 use Rattle.words.specs.Words.{wordIn}
 use Rattle.script.specs.declared.Command.{Command}
 use Rattle.script.specs.declared.Command.the-variants.{Open, Measure, Fix, Colour, Move}
 use Rattle.shot.specs.Reachable.{Reachable, Reachable.byOpening}
-use Rattle.shot.specs.Shot.{Outcome}
 use Rattle.shot.specs.declared.Shot.{Shot}
-use Rattle.book.specs.Book.{Call, Call.opening, Call.measuring, Call.fixing, Call.colouring}
 use Rattle.book.specs.Run.{WellFormed}
 use Rattle.book.proofs.Accuracy.{reachable-step}
-use Rattle.interpreter.specs.Interpreter.{newShots, shotOf, withShot, AllReachable, numberAnswer, bytesAnswer, onShot, answerTo, Answers, RepliesKeepPremise}
+use Rattle.interpreter.specs.Interpreter.{newShots, shotOf, withShot, AllReachable, Request, Request.calling, Request.moving, requestIn, replyTo, answerTo, LeavesReply, RepliesKeepPremise}
 use Rattle.interpreter.specs.declared.Answered.{Answered}
 use Rattle.interpreter.specs.declared.Shots.{Shots}
 
@@ -46,20 +43,24 @@ module _ {shots : Shots} (all : AllReachable shots) (number : ℕ) where
       (λ e. rw e (record { first = all .first; second = all .second; third = r; fourth = all .fourth }))
       (λ e. rw e (record { first = all .first; second = all .second; third = all .third; fourth = r }))))))
 
-  on-shot-reachable : (call : Call) (text : Outcome → List ℕ) → WellFormed call → AllReachable (onShot shots number call text .shots)
-  on-shot-reachable call text ok = kept-reachable (reachable-step shot-reachable call ok)
+-- what is asked for brings bytes
+abbrev pub BringsBytes : Request → Type 0
+BringsBytes (calling shot call) = WellFormed call
+BringsBytes (moving method pixel target) = Unit {0}
+
+pub brings-bytes : (line : List ℕ) (command : Command) → BringsBytes (requestIn line command)
+brings-bytes line (Open shot) = tt
+brings-bytes line (Measure shot strip) = decoded-small (wordIn line strip)
+brings-bytes line (Fix shot choice) = tt
+brings-bytes line (Colour shot method source destination) = decoded-small (wordIn line source)
+brings-bytes line (Move method pixel target) = tt
+
+reply-reachable : (shots : Shots) (request : Request) → BringsBytes request → AllReachable shots → AllReachable (replyTo shots request .shots)
+reply-reachable shots (calling shot call) brings all = kept-reachable all shot (reachable-step (shot-reachable all shot) call brings)
+reply-reachable shots (moving method pixel target) brings all = all
 
 pub replies-keep-premise : RepliesKeepPremise
-replies-keep-premise line shots (Open number) all = on-shot-reachable all number opening numberAnswer tt
-replies-keep-premise line shots (Measure number strip) all =
-    on-shot-reachable all number (measuring (decoded (wordIn line strip))) numberAnswer (decoded-small (wordIn line strip))
-replies-keep-premise line shots (Fix number choice) all = on-shot-reachable all number (fixing choice) numberAnswer tt
-replies-keep-premise line shots (Colour number method source destination) all =
-    on-shot-reachable all number
-    (colouring (record { method = method; source = decoded (wordIn line source); destination = decoded (wordIn line destination) }))
-    bytesAnswer
-    (decoded-small (wordIn line source))
-replies-keep-premise line shots (Move method pixel target) all = all
+replies-keep-premise line shots command all = reply-reachable shots (requestIn line command) (brings-bytes line command) all
 
 -- newly opened shots came from the calls
 pub new-reachable : AllReachable newShots
@@ -68,7 +69,7 @@ new-reachable = record { first = byOpening; second = byOpening; third = byOpenin
 -- For callers: so do the shots that an answer leaves.
 pub answered-reachable : (line : List ℕ) (command : Command) {before after : List ℕ} {shots : Shots} {answered : Answered}
     → AllReachable shots
-    → Answers (answerTo line shots command) before answered after
+    → LeavesReply (answerTo line shots command) before answered after
     → AllReachable (answered .shots)
 answered-reachable line command {shots = shots} all answers =
     subst AllReachable (sym (answers .shots)) (replies-keep-premise line shots command all)

@@ -11,27 +11,30 @@ use Rattle.hexadecimal.specs.Hexadecimal.{decoded}
 use Rattle.hexadecimal.proofs.Hexadecimal.{length-decoded}
 use Rattle.script.specs.Script.{lineLimit}
 use Rattle.answers.specs.Answers.{byteLimit, numberText}
+use Rattle.shot.specs.Shot.{Outcome}
 use Rattle.shot.specs.declared.Answer.{Answer}
 use Rattle.shot.specs.declared.Shot.{Shot}
 use Rattle.book.specs.Book.{Call}
 use Rattle.book.specs.Run.{step}
-use Rattle.interpreter.specs.Interpreter.{shotOf, Reply, kept, numberAnswer, onShot, Answers}
+use Rattle.interpreter.specs.Interpreter.{shotOf, Reply, kept, callText, onShot, LeavesReply}
 use Rattle.interpreter.specs.declared.Answered.{Answered}
 use Rattle.interpreter.specs.declared.Shots.{Shots}
 
 -- an equal reply
-pub replied : {reply other : Reply} {before after : List ℕ} {answered : Answered} → reply ≡ other → Answers reply before answered after
-    → Answers other before answered after
+pub replied : {reply other : Reply} {before after : List ℕ} {answered : Answered} → reply ≡ other → LeavesReply reply before answered after
+    → LeavesReply other before answered after
 replied {before = before} {after = after} {answered = answered} same answers =
-    subst (λ (r : Reply). Answers r before answered after) same answers
+    subst (λ (r : Reply). LeavesReply r before answered after) same answers
 
--- the number of a call on the shot with its number
-pub number-reply : (shots : Shots) (number : ℕ) (call : Call) {shot : Shot} {answer : Answer}
+-- a call on the shot with its number, of which the number alone is told
+pub number-reply : (shots : Shots) (number : ℕ) (call : Call) → ((o : Outcome) → callText call o ≡ numberText (o .answer .number))
+    → {shot : Shot} {answer : Answer}
     → answer ≡ step shot call .answer
     → shot ≡ shotOf shots number
-    → kept shots number answer (numberText (answer .number)) ≡ onShot shots number call numberAnswer
-number-reply shots number call called here =
+    → kept shots number answer (numberText (answer .number)) ≡ onShot shots number call
+number-reply shots number call told called here =
     ap (λ (a : Answer). kept shots number a (numberText (a .number))) (called ∙ ap (λ (x : Shot). step x call .answer) here)
+    ∙ ap (kept shots number (step (shotOf shots number) call .answer)) (sym (told (step (shotOf shots number) call)))
 
 -- Digits decoded into a run that has room for their bytes: these are the run's front.
 module _ (digits : List ℕ) {run output : List ℕ} {end : ℕ} (wrote : Writes 0 (decoded digits) run end output) (fits : length digits / 2 ≤ length run) where

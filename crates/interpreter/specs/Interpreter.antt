@@ -12,6 +12,7 @@ use Rattle.script.specs.declared.Command.the-variants.{Open, Measure, Fix, Colo
 use Rattle.pixel.specs.MoveOne.{movedOne}
 use Rattle.pixel.specs.Strip.{pixelFrom}
 use Rattle.pixel.specs.declared.Moved.{Moved}
+use Rattle.pixel.specs.declared.Pixel.{Pixel}
 use Rattle.shot.specs.Reachable.{Reachable}
 use Rattle.shot.specs.Shot.{opened, Outcome}
 use Rattle.shot.specs.declared.Answer.{Answer}
@@ -48,14 +49,33 @@ pub record AllReachable (shots : Shots) : Type 0 where
   pub third : Reachable (shots .third)
   pub fourth : Reachable (shots .fourth)
 
--- The text of an answer, by what the call did.
-abbrev pub numberAnswer : Outcome → List ℕ
-numberAnswer outcome = numberText (outcome .answer .number)
+-- What a command of a script asks for: a call on one of its shots, or a single move.
+pub data Request : Type 0 where
+  calling : (shot : ℕ) → (call : Call) → Request
+  moving : (method : ℕ) → (pixel : Pixel) → (target : ℕ) → Request
 
-abbrev pub bytesAnswer : Outcome → List ℕ
-bytesAnswer outcome = bytesText (outcome .answer .number) (outcome .bytes)
+-- What a command of a line asks for. (- has no pair of digits, so it stands for no byte.)
+abbrev pub requestIn : List ℕ → Command → Request
+requestIn line (Open shot) = calling shot opening
+requestIn line (Measure shot strip) = calling shot (measuring (decoded (wordIn line strip)))
+requestIn line (Fix shot choice) = calling shot (fixing choice)
+requestIn line (Colour shot method source destination) =
+    calling shot
+    (colouring (record { method = method; source = decoded (wordIn line source); destination = decoded (wordIn line destination) }))
+requestIn line (Move method pixel target) = moving method (pixelFrom (decoded (wordIn line pixel)) 0) target
 
--- What a call of a script leaves: the shots, and the text of its answer.
+-- The text of a call's answer: its number, and of a colouring also the bytes that it leaves.
+abbrev pub callText : Call → Outcome → List ℕ
+callText opening outcome = numberText (outcome .answer .number)
+callText (measuring strip) outcome = numberText (outcome .answer .number)
+callText (fixing choice) outcome = numberText (outcome .answer .number)
+callText (colouring request) outcome = bytesText (outcome .answer .number) (outcome .bytes)
+
+-- The text of a single move's answer: its number, and the pixel.
+abbrev pub movedText : Moved → List ℕ
+movedText moved = bytesText (moved .number) (moved .pixel .r ∷ moved .pixel .g ∷ moved .pixel .b ∷ [])
+
+-- What a command leaves: the shots, and the text of its answer.
 pub record Reply : Type 0 where
   pub shots : Shots
   pub text : List ℕ
@@ -65,36 +85,27 @@ abbrev pub kept : Shots → ℕ → Answer → List ℕ → Reply
 kept shots number answer text = record { shots = withShot shots number (answer .shot); text = text }
 
 -- A call on the shot with this number. `step` is what a list of calls is made of, of which demand 3 speaks.
-abbrev pub onShot : Shots → ℕ → Call → (Outcome → List ℕ) → Reply
-onShot shots number call text =
+abbrev pub onShot : Shots → ℕ → Call → Reply
+onShot shots number call =
     let outcome = step (shotOf shots number) call in
-    kept shots number (outcome .answer) (text outcome)
+    kept shots number (outcome .answer) (callText call outcome)
 
--- The answer of a single move.
-abbrev pub movedLine : Moved → List ℕ
-movedLine moved = bytesText (moved .number) (moved .pixel .r ∷ moved .pixel .g ∷ moved .pixel .b ∷ [])
+-- What is done on request.
+abbrev pub replyTo : Shots → Request → Reply
+replyTo shots (calling shot call) = onShot shots shot call
+replyTo shots (moving method pixel target) = record { shots = shots; text = movedText (movedOne method pixel target) }
 
-abbrev pub movedText : ℕ → List ℕ → ℕ → List ℕ
-movedText method bytes target = movedLine (movedOne method (pixelFrom bytes 0) target)
-
--- What a call of a line does. (- has no pair of digits, so it stands for no byte.)
+-- What a command of a line leaves.
 abbrev pub answerTo : List ℕ → Shots → Command → Reply
-answerTo line shots (Open number) = onShot shots number opening numberAnswer
-answerTo line shots (Measure number strip) = onShot shots number (measuring (decoded (wordIn line strip))) numberAnswer
-answerTo line shots (Fix number choice) = onShot shots number (fixing choice) numberAnswer
-answerTo line shots (Colour number method source destination) =
-    onShot shots number
-    (colouring (record { method = method; source = decoded (wordIn line source); destination = decoded (wordIn line destination) }))
-    bytesAnswer
-answerTo line shots (Move method pixel target) = record { shots = shots; text = movedText method (decoded (wordIn line pixel)) target }
+answerTo line shots command = replyTo shots (requestIn line command)
 
--- What a function that makes a call promises: the shots handed back are those of the reply, and its text stands at the start of the
--- output.
-pub record Answers (reply : Reply) (before : List ℕ) (answered : Answered) (after : List ℕ) : Type 0 where
+-- What a function that carries out a command promises: the shots handed back are those of the reply, and its text stands at the start
+-- of the output.
+pub record LeavesReply (reply : Reply) (before : List ℕ) (answered : Answered) (after : List ℕ) : Type 0 where
   pub shots : answered .shots ≡ reply .shots
   pub text : WritesAnswer (reply .text) before (answered .size) after
 
--- Claim: whatever the call, the shots that it leaves came from opening, measuring and fixing too. Proved: proofs/Premise.antt,
+-- Claim: whatever the command, the shots that it leaves came from opening, measuring and fixing too. Proved: proofs/Premise.antt,
 -- `replies-keep-premise`.
 abbrev pub RepliesKeepPremise : Type 0
 RepliesKeepPremise =

@@ -1,2 +1,3 @@
 pub mod Interpreter
 pub mod Lists
+pub mod Scripts

@@ -3,10 +3,12 @@ ghost use mathlib.Core.Path.{_≡_};
 ghost use Prim.Native.Nat.{_≤_};
 ghost use lib.ListN.{length};
 ghost use Rattle.hexadecimal.specs.Hexadecimal.{decoded};
+ghost use Rattle.pixel.specs.MoveOne.{movedOne};
+ghost use Rattle.pixel.specs.Strip.{pixelFrom};
 ghost use Rattle.script.specs.Script.{lineLimit, HasCall};
 ghost use Rattle.answers.specs.Answers.{byteLimit, textLimit, numberText, WritesAnswer};
 ghost use Rattle.book.specs.Book.{Call.opening, Call.measuring, Call.fixing, Call.colouring};
-ghost use Rattle.interpreter.specs.Interpreter.{newShots, shotOf, withShot, AllReachable, kept, numberAnswer, bytesAnswer, onShot, movedText, answerTo, Answers};
+ghost use Rattle.interpreter.specs.Interpreter.{newShots, shotOf, withShot, AllReachable, movedText, kept, onShot, answerTo, LeavesReply};
 use script::Command;
 use shot::Answer;
 use shot::Shot;
@@ -96,7 +98,7 @@ fn with_shot(shots: Shots, number: u32, shot: Shot) -> Shots
 // Puts the shot that a call handed back in the place of its number, and writes the call's number.
 fn answer_number(shots: Shots, number: u32, answer: Answer, output: &mut [u8]) -> Answered
     requires { ⌜ textLimit ≤ length (now output) ⌝ }
-    ensures { λ r. ⌜ Answers (kept shots number answer (numberText (answer .number))) (now (output .entry)) r (now (output .exit)) ⌝ }
+    ensures { λ r. ⌜ LeavesReply (kept shots number answer (numberText (answer .number))) (now (output .entry)) r (now (output .exit)) ⌝ }
 {
     let shot = answer.shot;
     let size = answers::write_number(answer.number, output);
@@ -109,7 +111,7 @@ fn answer_number(shots: Shots, number: u32, answer: Answer, output: &mut [u8]) -
 // open
 fn open_shot(shots: Shots, number: u32, output: &mut [u8]) -> Answered
     requires { ⌜ textLimit ≤ length (now output) ⌝ }
-    ensures { λ r. ⌜ Answers (onShot shots number opening numberAnswer) (now (output .entry)) r (now (output .exit)) ⌝ }
+    ensures { λ r. ⌜ LeavesReply (onShot shots number opening) (now (output .entry)) r (now (output .exit)) ⌝ }
 {
     let answer = book::open(shot_of(shots, number));
     answer_number(shots, number, answer, output)
@@ -120,7 +122,7 @@ fn measure_shot(shots: Shots, number: u32, strip: &[u8], output: &mut [u8]) -> A
     requires { ⌜ AllReachable shots ⌝ }
     requires { ⌜ length (now strip) ≤ lineLimit ⌝ }
     requires { ⌜ textLimit ≤ length (now output) ⌝ }
-    ensures { λ r. ⌜ Answers (onShot shots number (measuring (decoded (now (strip .entry)))) numberAnswer) (now (output .entry)) r (now (output .exit)) ⌝ }
+    ensures { λ r. ⌜ LeavesReply (onShot shots number (measuring (decoded (now (strip .entry))))) (now (output .entry)) r (now (output .exit)) ⌝ }
 {
     let mut bytes = [0u8; answers::BYTE_LIMIT];
     let count = hexadecimal::decode(strip, &mut bytes);
@@ -132,7 +134,7 @@ fn measure_shot(shots: Shots, number: u32, strip: &[u8], output: &mut [u8]) -> A
 fn fix_shot(shots: Shots, number: u32, choice: u32, output: &mut [u8]) -> Answered
     requires { ⌜ AllReachable shots ⌝ }
     requires { ⌜ textLimit ≤ length (now output) ⌝ }
-    ensures { λ r. ⌜ Answers (onShot shots number (fixing choice) numberAnswer) (now (output .entry)) r (now (output .exit)) ⌝ }
+    ensures { λ r. ⌜ LeavesReply (onShot shots number (fixing choice)) (now (output .entry)) r (now (output .exit)) ⌝ }
 {
     let answer = book::fix(shot_of(shots, number), choice);
     answer_number(shots, number, answer, output)
@@ -150,7 +152,7 @@ fn colour_bytes(
     requires { ⌜ AllReachable shots ⌝ }
     requires { ⌜ length (now destination) ≤ byteLimit ⌝ }
     requires { ⌜ textLimit ≤ length (now output) ⌝ }
-    ensures { λ r. ⌜ Answers (onShot shots number (colouring (record { method = method; source = now (source .entry); destination = now (destination .entry) })) bytesAnswer) (now (output .entry)) r (now (output .exit)) ⌝ }
+    ensures { λ r. ⌜ LeavesReply (onShot shots number (colouring (record { method = method; source = now (source .entry); destination = now (destination .entry) }))) (now (output .entry)) r (now (output .exit)) ⌝ }
 {
     let answer = book::colour(shot_of(shots, number), method, source, destination);
     let shot = answer.shot;
@@ -174,7 +176,7 @@ fn colour_shot(
     requires { ⌜ length (now source) ≤ lineLimit ⌝ }
     requires { ⌜ length (now destination) ≤ lineLimit ⌝ }
     requires { ⌜ textLimit ≤ length (now output) ⌝ }
-    ensures { λ r. ⌜ Answers (onShot shots number (colouring (record { method = method; source = decoded (now (source .entry)); destination = decoded (now (destination .entry)) })) bytesAnswer) (now (output .entry)) r (now (output .exit)) ⌝ }
+    ensures { λ r. ⌜ LeavesReply (onShot shots number (colouring (record { method = method; source = decoded (now (source .entry)); destination = decoded (now (destination .entry)) }))) (now (output .entry)) r (now (output .exit)) ⌝ }
 {
     let mut from = [0u8; answers::BYTE_LIMIT];
     let read = hexadecimal::decode(source, &mut from);
@@ -194,7 +196,7 @@ fn colour_shot(
 fn move_pixel(method: u32, pixel: &[u8], target: u32, output: &mut [u8]) -> usize
     requires { ⌜ length (now pixel) ≡ 6 ⌝ }
     requires { ⌜ textLimit ≤ length (now output) ⌝ }
-    ensures { λ r. ⌜ WritesAnswer (movedText method (decoded (now (pixel .entry))) target) (now (output .entry)) r (now (output .exit)) ⌝ }
+    ensures { λ r. ⌜ WritesAnswer (movedText (movedOne method (pixelFrom (decoded (now (pixel .entry))) 0) target)) (now (output .entry)) r (now (output .exit)) ⌝ }
 {
     let mut bytes = [0u8; 3];
     let count = hexadecimal::decode(pixel, &mut bytes);
@@ -209,7 +211,7 @@ pub fn answer(shots: Shots, command: Command, line: &[u8], output: &mut [u8]) ->
     requires { ⌜ AllReachable shots ⌝ }
     requires { ⌜ HasCall (now line) command ⌝ }
     requires { ⌜ textLimit ≤ length (now output) ⌝ }
-    ensures { λ r. ⌜ Answers (answerTo (now (line .entry)) shots command) (now (output .entry)) r (now (output .exit)) ⌝ }
+    ensures { λ r. ⌜ LeavesReply (answerTo (now (line .entry)) shots command) (now (output .entry)) r (now (output .exit)) ⌝ }
 {
     match command {
         Command::Open(number) => open_shot(shots, number, output),

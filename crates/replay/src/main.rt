@@ -1,11 +1,14 @@
 // The program `replay`: reads a script from standard input, makes its calls, and writes the answer of each to standard output. What a
 // line is read as, and what it is answered, is decided in `script` and `interpreter`. Only a line at a time is held, so a script may
 // have any length.
+ghost use mathlib.Core.Path.{_≡_};
+ghost use mathlib.Core.Bool.{true, false};
 ghost use Prim.Native.Nat.{_≤_, _<_};
 ghost use lib.ListN.{length};
-ghost use Rattle.script.specs.Script.{HasCall};
+ghost use Rattle.script.specs.Script.{lineOf, HasCall};
 ghost use Rattle.answers.specs.Answers.{textLimit};
 ghost use Rattle.interpreter.specs.Interpreter.{AllReachable};
+ghost use Rattle.interpreter.specs.Scripts.{repliesTo, lineReply};
 use interpreter::Shots;
 use libc::STDERR_FILENO;
 use libc::STDIN_FILENO;
@@ -18,17 +21,17 @@ use words::Fault;
 // Room for a line and its line feed: what fills it without one is a line that is too long.
 const ROOM: usize = script::LINE_LIMIT + 1;
 
-// A script at work: its shots, how many lines have been answered, whether the line at hand has been found too long and its bytes so
-// far thrown away, and whether all answers were written.
+// What a script has come to: its shots, how many lines have ended, whether the line at hand is too long, so that its bytes so far were
+// thrown away, and whether all answers were written.
 struct Session {
     shots: Shots,
     lines: u64,
-    too_long: bool,
+    overlong: bool,
     written: bool,
 }
 
-// How far the bytes at hand have been played: `start` is the place after the last line feed.
-struct Played {
+// How far the bytes at hand have been answered: `start` is the place after the last line feed.
+struct Progress {
     session: Session,
     start: usize,
 }
@@ -40,7 +43,7 @@ struct Arrived {
 }
 
 // The script so far, how many bytes of the line at hand are held, and whether there is more to come.
-struct Turn {
+struct State {
     session: Session,
     held: usize,
     goes_on: bool,
@@ -66,6 +69,7 @@ fn make_calls(
     requires { ⌜ HasCall (now line) command ⌝ }
     requires { ⌜ textLimit ≤ length (now output) ⌝ }
     ensures { λ r. ⌜ AllReachable (r .shots) ⌝ }
+    ensures { λ r. ⌜ (r .written ≡ true → r .shots ≡ repliesTo times (now (line .entry)) command shots .shots) ⌝ }
 {
     let mut now = shots;
     let mut left = times;
@@ -76,7 +80,7 @@ fn make_calls(
             return Session {
                 shots: now,
                 lines,
-                too_long: false,
+                overlong: false,
                 written: false,
             };
         }
@@ -85,7 +89,7 @@ fn make_calls(
     Session {
         shots: now,
         lines,
-        too_long: false,
+        overlong: false,
         written: true,
     }
 }
@@ -95,26 +99,29 @@ fn answer_fault(shots: Shots, lines: u64, fault: Fault, output: &mut [u8]) -> Se
     requires { ⌜ AllReachable shots ⌝ }
     requires { ⌜ textLimit ≤ length (now output) ⌝ }
     ensures { λ r. ⌜ AllReachable (r .shots) ⌝ }
+    ensures { λ r. ⌜ r .shots ≡ shots ⌝ }
 {
     let size = answers::write_fault(fault, lines, output);
     Session {
         shots,
         lines,
-        too_long: false,
+        overlong: false,
         written: write_answer(output, size),
     }
 }
 
 // Plays a line, which is the last piece of it where it is too long.
-fn play_line(session: Session, line: &[u8], output: &mut [u8]) -> Session
+fn answer_line(session: Session, line: &[u8], output: &mut [u8]) -> Session
     requires { ⌜ AllReachable (session .shots) ⌝ }
     requires { ⌜ textLimit ≤ length (now output) ⌝ }
     ensures { λ r. ⌜ AllReachable (r .shots) ⌝ }
+    ensures { λ r. ⌜ (session .overlong ≡ true → r .shots ≡ session .shots) ⌝ }
+    ensures { λ r. ⌜ (session .overlong ≡ false → r .written ≡ true → r .shots ≡ lineReply (r .lines) (now (line .entry)) (lineOf (now (line .entry))) (session .shots) .shots) ⌝ }
 {
     let shots = session.shots;
     // no script has so many lines that the number comes round
     let lines = std::num::wrapping_add_u64(session.lines, 1);
-    if session.too_long {
+    if session.overlong {
         return answer_fault(shots, lines, Fault::TooLong, output);
     }
     let read = script::read_line(line);
@@ -122,7 +129,7 @@ fn play_line(session: Session, line: &[u8], output: &mut [u8]) -> Session
         ScriptLine::Blank => Session {
             shots,
             lines,
-            too_long: false,
+            overlong: false,
             written: true,
         },
         ScriptLine::Calls(times, command) => make_calls(shots, lines, times, command, line, output),
@@ -131,7 +138,7 @@ fn play_line(session: Session, line: &[u8], output: &mut [u8]) -> Session
 }
 
 // Plays the lines that end within the bytes at hand.
-fn play_lines(session: Session, bytes: &[u8], output: &mut [u8]) -> Played
+fn answer_lines(session: Session, bytes: &[u8], output: &mut [u8]) -> Progress
     requires { ⌜ AllReachable (session .shots) ⌝ }
     requires { ⌜ textLimit ≤ length (now output) ⌝ }
     ensures { λ r. ⌜ AllReachable (r .session .shots) ⌝ }
@@ -142,15 +149,15 @@ fn play_lines(session: Session, bytes: &[u8], output: &mut [u8]) -> Played
     while now.written {
         let end = scanning::run_end(Class::Line, bytes, start);
         if bytes.len() <= end {
-            return Played {
+            return Progress {
                 session: now,
                 start,
             };
         }
-        now = play_line(now, &bytes[start..end], output);
+        now = answer_line(now, &bytes[start..end], output);
         start = end + 1;
     }
-    Played {
+    Progress {
         session: now,
         start,
     }
@@ -169,7 +176,7 @@ fn move_to_front(bytes: &mut [u8], start: usize, end: usize)
 }
 
 // Says on standard error why the program ends early: it has no exit status.
-fn complain(text: &[u8]) {
+fn report(text: &[u8]) {
     io::write_all(STDERR_FILENO, b"replay: ");
     io::write_all(STDERR_FILENO, text);
     io::write_all(STDERR_FILENO, b"\n");
@@ -180,27 +187,27 @@ fn finish(session: Session, rest: &[u8], output: &mut [u8])
     requires { ⌜ AllReachable (session .shots) ⌝ }
     requires { ⌜ textLimit ≤ length (now output) ⌝ }
 {
-    if rest.len() == 0 && !session.too_long {
+    if rest.len() == 0 && !session.overlong {
         return;
     }
-    let last = play_line(session, rest, output);
+    let last = answer_line(session, rest, output);
     if !last.written {
-        complain(b"the answers could not be written");
+        report(b"the answers could not be written");
     }
 }
 
-// Keeps the line that has not ended, after the others have been played.
-fn keep_rest(played: Played, end: usize, buffer: &mut [u8]) -> Turn
-    requires { ⌜ AllReachable (played .session .shots) ⌝ }
-    requires { ⌜ (played .start ≤ end) × (end ≤ length (now buffer)) × (0 < length (now buffer)) ⌝ }
+// Keeps the line that has not ended, after the others have been progress.
+fn keep_rest(progress: Progress, end: usize, buffer: &mut [u8]) -> State
+    requires { ⌜ AllReachable (progress .session .shots) ⌝ }
+    requires { ⌜ (progress .start ≤ end) × (end ≤ length (now buffer)) × (0 < length (now buffer)) ⌝ }
     ensures { λ r. ⌜ AllReachable (r .session .shots) ⌝ }
     ensures { λ r. ⌜ r .held < length (now (buffer .entry)) ⌝ }
 {
-    let session = played.session;
-    let start = played.start;
+    let session = progress.session;
+    let start = progress.start;
     if !session.written {
-        complain(b"the answers could not be written");
-        return Turn {
+        report(b"the answers could not be written");
+        return State {
             session,
             held: 0,
             goes_on: false,
@@ -209,18 +216,18 @@ fn keep_rest(played: Played, end: usize, buffer: &mut [u8]) -> Turn
     move_to_front(buffer, start, end);
     let held = end - start;
     if held < buffer.len() {
-        return Turn {
+        return State {
             session,
             held,
             goes_on: true,
         };
     }
     let shots = session.shots;
-    Turn {
+    State {
         session: Session {
             shots,
             lines: session.lines,
-            too_long: true,
+            overlong: true,
             written: true,
         },
         held: 0,
@@ -242,19 +249,19 @@ fn read_more(buffer: &mut [u8], held: usize) -> Arrived
 }
 
 // Reads what there is to read, and plays it.
-fn take_turn(turn: Turn, buffer: &mut [u8], output: &mut [u8]) -> Turn
-    requires { ⌜ AllReachable (turn .session .shots) ⌝ }
-    requires { ⌜ turn .held < length (now buffer) ⌝ }
+fn read_and_answer(state: State, buffer: &mut [u8], output: &mut [u8]) -> State
+    requires { ⌜ AllReachable (state .session .shots) ⌝ }
+    requires { ⌜ state .held < length (now buffer) ⌝ }
     requires { ⌜ textLimit ≤ length (now output) ⌝ }
     ensures { λ r. ⌜ AllReachable (r .session .shots) ⌝ }
     ensures { λ r. ⌜ r .held < length (now (buffer .entry)) ⌝ }
 {
-    let session = turn.session;
-    let held = turn.held;
+    let session = state.session;
+    let held = state.held;
     let arrived = read_more(buffer, held);
     if arrived.failed {
-        complain(b"the script could not be read");
-        return Turn {
+        report(b"the script could not be read");
+        return State {
             session,
             held: 0,
             goes_on: false,
@@ -263,24 +270,24 @@ fn take_turn(turn: Turn, buffer: &mut [u8], output: &mut [u8]) -> Turn
     let end = arrived.end;
     if end == held {
         finish(session, &buffer[..held], output);
-        return Turn {
+        return State {
             session,
             held: 0,
             goes_on: false,
         };
     }
-    let played = play_lines(session, &buffer[..end], output);
-    keep_rest(played, end, buffer)
+    let progress = answer_lines(session, &buffer[..end], output);
+    keep_rest(progress, end, buffer)
 }
 
 fn main() {
     let mut buffer = [0u8; ROOM];
     let mut output = [0u8; answers::TEXT_LIMIT];
-    let mut turn = Turn {
+    let mut state = State {
         session: Session {
             shots: interpreter::new_shots(),
             lines: 0,
-            too_long: false,
+            overlong: false,
             written: true,
         },
         held: 0,
@@ -289,8 +296,8 @@ fn main() {
     // a proved loop has to end, and nothing says that a script does
     let mut turns = u64::MAX;
     while 0 < turns {
-        turn = take_turn(turn, &mut buffer, &mut output);
-        if !turn.goes_on {
+        state = read_and_answer(state, &mut buffer, &mut output);
+        if !state.goes_on {
             return;
         }
         turns -= 1;

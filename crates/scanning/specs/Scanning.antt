@@ -7,7 +7,7 @@ use Prim.Native.Nat.{ℕ, suc, _-_}
 use lib.Dec.{leb, eqb}
 use Rattle.text.specs.Decimal.{isDigit}
 use Rattle.scanning.specs.declared.Class.{Class}
-use Rattle.scanning.specs.declared.Class.the-variants.{Space, Digit, HexDigit, Word, Code, Line}
+use Rattle.scanning.specs.declared.Class.the-variants.{Space, Digit, HexDigit, Word, Uncommented, Line}
 
 -- "space, tab, LF, VT, FF, CR" (document 01, "Frames from a file")
 abbrev pub isSpace : ℕ → Bool
@@ -28,7 +28,7 @@ inClass Space b = isSpace b
 inClass Digit b = isDigit b
 inClass HexDigit b = isHexDigit b
 inClass Word b = not (isSpace b)
-inClass Code b = not (eqb b (code "#"))
+inClass Uncommented b = not (eqb b (code "#"))
 inClass Line b = not (eqb b 10)
 
 -- How many bytes pass the test before the first that does not.

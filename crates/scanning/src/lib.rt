@@ -15,7 +15,7 @@ pub enum Class {
     // What a word is made of: all but white space.
     Word,
     // What stands before a comment: all but #.
-    Code,
+    Uncommented,
     // What a line is made of: all but LF.
     Line,
 }
@@ -66,7 +66,7 @@ fn in_class(class: Class, b: u8) -> bool
         Class::Digit => text::is_digit(b),
         Class::HexDigit => is_hex_digit(b),
         Class::Word => !is_space(b),
-        Class::Code => b != b'#',
+        Class::Uncommented => b != b'#',
         Class::Line => b != b'\n',
     }
 }

@@ -12,7 +12,7 @@ use lib.Seq.{take-append-le, drop-append-le, length-take-le}
 use Rattle.tables.proofs.Cases.{both}
 use Rattle.hexadecimal.specs.Hexadecimal.{isPairs}
 use Rattle.scanning.specs.Scanning.{inClass, runLength, sameBytes}
-use Rattle.scanning.specs.declared.Class.the-variants.{Code}
+use Rattle.scanning.specs.declared.Class.the-variants.{Uncommented}
 use Rattle.text.specs.Text.{ascii}
 use Rattle.words.specs.Words.{Within, wordAt, wordIn, isMissing, firstBad, goodIf, verdictOf, isPixel, isShot, numberAt, shotAt, digitsAt, endAt, HasDigits}
 use Rattle.script.specs.Script.{lineLimit, once, openAt, measureAt, fixAt, colourAt, moveAt, nameOf, namedAt, callAt, withTimes, repeatedBy, textLine, lineOf, IsCall, CallsAreDue}
@@ -203,7 +203,7 @@ line-due : (line : List ℕ) (times : ℕ) (command : Command) → lineOf line �
     → (length line ≤ lineLimit) × IsCall line command
 unfolding lineOf
 line-due line times command e =
-    let n = runLength (inClass Code) line in
+    let n = runLength (inClass Uncommented) line in
     cases (ltb lineLimit (length line))
     (λ long. fault-no-call TooLong times command (rw long at e))
     (λ short.

@@ -8,7 +8,7 @@ use lib.Dec.{ltb}
 use lib.ListN.{length, take}
 use Rattle.text.specs.Text.{ascii}
 use Rattle.scanning.specs.Scanning.{inClass, runLength, sameBytes}
-use Rattle.scanning.specs.declared.Class.the-variants.{Code}
+use Rattle.scanning.specs.declared.Class.the-variants.{Uncommented}
 use Rattle.words.specs.Words.{wordAt, wordIn, isMissing, firstBad, isShot, numberAt, shotAt, digitsAt, endAt, HasDigits}
 use Rattle.words.specs.declared.Due.the-variants.{Strip, Pixel}
 use Rattle.words.specs.declared.Fault.the-variants.{TooLong, NoSuchCall, TooFewWords}
@@ -133,7 +133,7 @@ textLine line =
 
 -- What a line is read as. A comment begins with # and reaches to the end of the line.
 unfoldable pub lineOf : List ℕ → ScriptLine
-lineOf line = cond (ltb lineLimit (length line)) (NoCall TooLong) (textLine (take (runLength (inClass Code) line) line))
+lineOf line = cond (ltb lineLimit (length line)) (NoCall TooLong) (textLine (take (runLength (inClass Uncommented) line) line))
 
 -- What a call brings is as it is due.
 abbrev pub IsCall : List ℕ → Command → Type 0

@@ -240,6 +240,6 @@ pub fn read_line(line: &[u8]) -> ScriptLine
     if LINE_LIMIT < line.len() {
         return ScriptLine::NoCall(Fault::TooLong);
     }
-    let end = scanning::run_end(Class::Code, line, 0);
+    let end = scanning::run_end(Class::Uncommented, line, 0);
     read_text(&line[..end])
 }

@@ -7,7 +7,7 @@ use Rattle.shot.specs.Shot.{Outcome}
 use Rattle.shot.specs.declared.Shot.{Shot}
 use Rattle.book.specs.Run.{step}
 use Rattle.answers.specs.Answers.{WritesAnswer}
-use Rattle.interpreter.specs.Interpreter.{withShot, bytesAnswer}
+use Rattle.interpreter.specs.Interpreter.{withShot, callText}
 use borrow.Author.Needs.{needs}
 use Rattle.interpreter.proofs.colour_bytes.Statement.{statement}
 use Rattle.interpreter.proofs.colour_bytes.Tie as tie
@@ -37,7 +37,7 @@ returns c =
     let outcome = sym (c .before .before .before .before .before .before .before .before .before .colour .ensures) ∙ ap (λ (x : Shot). step x call) (c .before .before .before .before .before .before .before .before .before .before .before .shot-of .ensures) in
     record {
       shots = c .with-shot .ensures ∙ ap (λ (o : Outcome). withShot (start .shots) (start .number) (o .answer .shot)) outcome;
-      text = subst (λ (o : Outcome). WritesAnswer (bytesAnswer o) (start .output .now) (c .before .before .before .write-bytes .result) (c .before .before .before .write-bytes .last .1 .1 .0)) outcome (c .before .before .before .write-bytes .ensures);
+      text = subst (λ (o : Outcome). WritesAnswer (callText call o) (start .output .now) (c .before .before .before .write-bytes .result) (c .before .before .before .write-bytes .last .1 .1 .0)) outcome (c .before .before .before .write-bytes .ensures);
     }
 
 pub colour-bytes-spec : {M : Type 1} → statement M

@@ -5,7 +5,7 @@ use mathlib.Core.Path.{ap₂}
 use mathlib.Core.List.{List}
 use Prim.Native.Nat.{ℕ}
 use Rattle.text.proofs.Runs.{writes-front}
-use Rattle.interpreter.specs.Interpreter.{bytesAnswer, onShot}
+use Rattle.interpreter.specs.Interpreter.{onShot}
 use borrow.Author.Needs.{needs}
 use Rattle.interpreter.proofs.colour_shot.Statement.{statement}
 use Rattle.interpreter.proofs.colour_shot.Tie as tie
@@ -48,7 +48,7 @@ returns c =
     replied
     (ap₂
     (λ (source destination : List ℕ).
-    onShot (start .shots) (start .number) (colouring (record { method = start .method; source = source; destination = destination })) bytesAnswer)
+    onShot (start .shots) (start .number) (colouring (record { method = start .method; source = source; destination = destination })))
     (writes-front (c .before .before .before .before .before .before .before .before .before .before .before .decode .ensures))
     (writes-front (c .before .before .before .before .before .before .before .before .decode2 .ensures)))
     (c .before .before .before .colour-bytes .ensures)

@@ -2,7 +2,7 @@
 use Rattle.interpreter.proofs.Replies.{replied, number-reply}
 use Rattle.interpreter.proofs.Premise.{shot-reachable}
 use Rattle.book.specs.Book.{Call.fixing}
-use mathlib.Core.Path.{sym, subst}
+use mathlib.Core.Path.{refl, sym, subst}
 use Rattle.shot.specs.Reachable.{Reachable}
 use borrow.Author.Needs.{needs}
 use Rattle.interpreter.proofs.fix_shot.Statement.{statement}
@@ -22,7 +22,7 @@ same-length c = search needs
 
 returns : tie.Need-returns
 returns c =
-    replied (number-reply (c .before .before .before .before .before .before .before .args .shots) (c .before .before .before .before .before .before .before .args .number) (fixing (c .before .before .before .before .before .before .before .args .choice)) (c .before .before .before .before .fix .ensures) (c .before .before .before .before .before .shot-of .ensures)) (c .before .before .answer-number .ensures)
+    replied (number-reply (c .before .before .before .before .before .before .before .args .shots) (c .before .before .before .before .before .before .before .args .number) (fixing (c .before .before .before .before .before .before .before .args .choice)) (λ o. refl) (c .before .before .before .before .fix .ensures) (c .before .before .before .before .before .shot-of .ensures)) (c .before .before .answer-number .ensures)
 
 pub fix-shot-spec : {M : Type 1} → statement M
 fix-shot-spec =

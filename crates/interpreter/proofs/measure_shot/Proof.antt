@@ -2,13 +2,13 @@
 use Rattle.interpreter.proofs.Replies.{replied, number-reply, decoded-within, decoded-length}
 use Rattle.interpreter.proofs.Premise.{shot-reachable}
 use Rattle.book.specs.Book.{Call.measuring}
-use mathlib.Core.Path.{sym, ap, subst, _∙_}
+use mathlib.Core.Path.{refl, sym, ap, subst, _∙_}
 use Rattle.shot.specs.Reachable.{Reachable}
 use mathlib.Core.List.{List}
 use Prim.Native.Nat.{ℕ}
 use lib.ListN.{take}
 use Rattle.text.proofs.Runs.{writes-front}
-use Rattle.interpreter.specs.Interpreter.{numberAnswer, onShot}
+use Rattle.interpreter.specs.Interpreter.{onShot}
 use borrow.Author.Needs.{needs}
 use Rattle.interpreter.proofs.measure_shot.Statement.{statement}
 use Rattle.interpreter.proofs.measure_shot.Tie as tie
@@ -42,8 +42,8 @@ returns c =
     let start = c .before .before .before .before .before .before .before .before .before .before .before .before in
     let front = c .before .before .before .before .before .before .before .before .decode .ensures in
     replied
-    (number-reply (start .args .shots) (start .args .number) (measuring (take (c .before .before .before .before .before .before .before .before .decode .result) (c .before .before .before .before .before .before .before .before .decode .last .1 .0))) (c .before .before .before .before .measure .ensures) (c .before .before .before .before .before .before .shot-of .ensures)
-    ∙ ap (λ (bytes : List ℕ). onShot (start .args .shots) (start .args .number) (measuring bytes) numberAnswer) (writes-front front))
+    (number-reply (start .args .shots) (start .args .number) (measuring (take (c .before .before .before .before .before .before .before .before .decode .result) (c .before .before .before .before .before .before .before .before .decode .last .1 .0))) (λ o. refl) (c .before .before .before .before .measure .ensures) (c .before .before .before .before .before .before .shot-of .ensures)
+    ∙ ap (λ (bytes : List ℕ). onShot (start .args .shots) (start .args .number) (measuring bytes)) (writes-front front))
     (c .before .before .answer-number .ensures)
 
 pub measure-shot-spec : {M : Type 1} → statement M

@@ -12,7 +12,7 @@ use Rattle.pixel.specs.MoveOne.{movedOne}
 use Rattle.pixel.specs.Strip.{pixelFrom}
 use Rattle.pixel.specs.declared.Moved.{Moved}
 use Rattle.pixel.specs.declared.Pixel.{Pixel}
-use Rattle.interpreter.specs.Interpreter.{movedLine}
+use Rattle.interpreter.specs.Interpreter.{movedText}
 use borrow.Author.Needs.{needs}
 use Rattle.interpreter.proofs.move_pixel.Statement.{statement}
 use Rattle.interpreter.proofs.move_pixel.Tie as tie
@@ -51,7 +51,7 @@ returns c =
     let start = c .before .before .before .before .before .before .before .before .before .before .before .before .before .before .args in
     let pixel = c .before .before .before .before .before .before .before .read-pixel .ensures ∙ ap (λ (bytes : List ℕ). pixelFrom bytes 0) (writes-front (c .before .before .before .before .before .before .before .before .before .before .decode .ensures)) in
     let moved = c .before .before .before .before .before .before .move-one .ensures ∙ ap (λ (p : Pixel). movedOne (start .method) p (start .target)) pixel in
-    subst (λ (m : Moved). WritesAnswer (movedLine m) (start .output .now) (c .before .before .write-bytes .result) (c .before .before .write-bytes .last .1 .1 .0)) moved
+    subst (λ (m : Moved). WritesAnswer (movedText m) (start .output .now) (c .before .before .write-bytes .result) (c .before .before .write-bytes .last .1 .1 .0)) moved
     (c .before .before .write-bytes .ensures)
 
 pub move-pixel-spec : {M : Type 1} → statement M

@@ -4,11 +4,11 @@ use borrow.Author.Needs.{needs}
 use Rattle.replay.proofs.keep_rest.Statement.{statement}
 use Rattle.replay.proofs.keep_rest.Tie as tie
 
-slice-aggregate-complain : tie.Need-slice-aggregate-complain
-slice-aggregate-complain c = search needs
+slice-aggregate-report : tie.Need-slice-aggregate-report
+slice-aggregate-report c = search needs
 
-complain-requires : tie.Need-complain-requires
-complain-requires c κs = search needs
+report-requires : tie.Need-report-requires
+report-requires c κs = search needs
 
 returns : tie.Need-returns
 returns c = search needs
@@ -35,8 +35,8 @@ pub keep-rest-spec : {M : Type 1} → statement M
 keep-rest-spec =
     tie.close
     (tie.spec
-    slice-aggregate-complain
-    complain-requires
+    slice-aggregate-report
+    report-requires
     returns
     move-to-front-requires
     sub-held

@@ -12,11 +12,11 @@ use Rattle.replay.proofs.main.Statement.{statement}
 use Rattle.replay.proofs.main.Tie as tie
 
 abbrev Inv-loop : tie.InvT-loop
-Inv-loop buffer₀ output₀ turn₀ turns₀ buffer output turn turns =
-    AllReachable (turn .session .shots) × (turn .held ≤ lineLimit) × (length buffer ≡ lineLimit + 1) × (length output ≡ textLimit)
+Inv-loop buffer₀ output₀ state₀ turns₀ buffer output state turns =
+    AllReachable (state .session .shots) × (state .held ≤ lineLimit) × (length buffer ≡ lineLimit + 1) × (length output ≡ textLimit)
 
 abbrev μ-loop : tie.MeasureT-loop
-μ-loop buffer₀ output₀ turn₀ turns₀ buffer output turn turns = turns
+μ-loop buffer₀ output₀ state₀ turns₀ buffer output state turns = turns
 
 new-shots-requires : tie.Need-new-shots-requires Inv-loop μ-loop
 new-shots-requires c κs = search needs
@@ -24,14 +24,14 @@ new-shots-requires c κs = search needs
 loop-holds : tie.Need-loop-holds Inv-loop μ-loop
 loop-holds c = (subst AllReachable (sym (c .new-shots .ensures)) new-reachable, omega arith, refl, refl)
 
-slice-aggregate-take-turn : tie.Need-slice-aggregate-take-turn Inv-loop μ-loop
-slice-aggregate-take-turn c = sym (c .before .before .loop .inv .2)
+slice-aggregate-read-and-answer : tie.Need-slice-aggregate-read-and-answer Inv-loop μ-loop
+slice-aggregate-read-and-answer c = sym (c .before .before .loop .inv .2)
 
-slice-aggregate-take-turn-2 : tie.Need-slice-aggregate-take-turn-2 Inv-loop μ-loop
-slice-aggregate-take-turn-2 c = sym (c .before .before .before .loop .inv .3)
+slice-aggregate-read-and-answer-2 : tie.Need-slice-aggregate-read-and-answer-2 Inv-loop μ-loop
+slice-aggregate-read-and-answer-2 c = sym (c .before .before .before .loop .inv .3)
 
-take-turn-requires : tie.Need-take-turn-requires Inv-loop μ-loop
-take-turn-requires c κs =
+read-and-answer-requires : tie.Need-read-and-answer-requires Inv-loop μ-loop
+read-and-answer-requires c κs =
     let inv = c .before .before .before .loop .inv in
     (inv .0, (omega (arith, inv .1, inv .2), omega (arith, inv .3)))
 
@@ -58,9 +58,9 @@ main-spec =
     μ-loop
     new-shots-requires
     loop-holds
-    slice-aggregate-take-turn
-    slice-aggregate-take-turn-2
-    take-turn-requires
+    slice-aggregate-read-and-answer
+    slice-aggregate-read-and-answer-2
+    read-and-answer-requires
     returns
     sub-turns
     loop-less

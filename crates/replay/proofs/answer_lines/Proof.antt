@@ -1,11 +1,11 @@
--- `replay::play_lines` meets its contract.
+-- `replay::answer_lines` meets its contract.
 use mathlib.Core.Path.{_≡_}
 use Prim.Native.Nat.{_-_, _≤_}
 use lib.ListN.{length}
 use Rattle.interpreter.specs.Interpreter.{AllReachable}
 use borrow.Author.Needs.{needs}
-use Rattle.replay.proofs.play_lines.Statement.{statement}
-use Rattle.replay.proofs.play_lines.Tie as tie
+use Rattle.replay.proofs.answer_lines.Statement.{statement}
+use Rattle.replay.proofs.answer_lines.Tie as tie
 
 abbrev Inv-loop : tie.InvT-loop
 Inv-loop bytes output₀ now₀ start₀ output now start = AllReachable (now .shots) × (start ≤ length bytes) × (length output ≡ length output₀)
@@ -25,17 +25,17 @@ same-length c = search needs
 returns : tie.Need-returns Inv-loop μ-loop
 returns c = search needs
 
-sub-play-line : tie.Need-sub-play-line Inv-loop μ-loop
-sub-play-line c = search needs
+sub-answer-line : tie.Need-sub-answer-line Inv-loop μ-loop
+sub-answer-line c = search needs
 
-part-play-line-start : tie.Need-part-play-line-start Inv-loop μ-loop
-part-play-line-start c = search needs
+part-answer-line-start : tie.Need-part-answer-line-start Inv-loop μ-loop
+part-answer-line-start c = search needs
 
-part-play-line-end : tie.Need-part-play-line-end Inv-loop μ-loop
-part-play-line-end c = search needs
+part-answer-line-end : tie.Need-part-answer-line-end Inv-loop μ-loop
+part-answer-line-end c = search needs
 
-play-line-requires : tie.Need-play-line-requires Inv-loop μ-loop
-play-line-requires c κs = search needs
+answer-line-requires : tie.Need-answer-line-requires Inv-loop μ-loop
+answer-line-requires c κs = search needs
 
 add-start : tie.Need-add-start Inv-loop μ-loop
 add-start c = search needs
@@ -52,8 +52,8 @@ same-length-2 c = search needs
 returns-2 : tie.Need-returns-2 Inv-loop μ-loop
 returns-2 c = search needs
 
-pub play-lines-spec : {M : Type 1} → statement M
-play-lines-spec =
+pub answer-lines-spec : {M : Type 1} → statement M
+answer-lines-spec =
     tie.close
     (tie.spec
     Inv-loop
@@ -62,10 +62,10 @@ play-lines-spec =
     run-end-requires
     same-length
     returns
-    sub-play-line
-    part-play-line-start
-    part-play-line-end
-    play-line-requires
+    sub-answer-line
+    part-answer-line-start
+    part-answer-line-end
+    answer-line-requires
     add-start
     loop-less
     loop-again

@@ -24,8 +24,8 @@ headerLimit = 64
 abbrev pub areaLimit : ℕ
 areaLimit = 16384
 
--- The field that begins at a place: white space, then a number. "White space is one or more of" the above. "A number has 1 to 5
--- decimal digits; leading zeros are allowed." The answer has the number, and the place after it.
+-- The field that begins at a place: white space, then a number. "White space is one or more of" what `isSpace` has. "A number has 1 to
+-- 5 decimal digits; leading zeros are allowed." The answer has the number, and the place after it.
 unfoldable pub fieldAt : List ℕ → ℕ → Field
 fieldAt bytes place =
     let spaces = runLength isSpace (drop place bytes) in

@@ -235,7 +235,7 @@ fn keep_rest(progress: Progress, end: usize, buffer: &mut [u8]) -> State
     }
 }
 
-// Reads what there is to read into the room that is left, and hands back where it ends: where nothing is left to read, at once.
+// Reads what there is to read into the room that is left, and hands back where that ends: at the end of the input, where it began.
 fn read_more(buffer: &mut [u8], held: usize) -> Arrived
     requires { ⌜ held < length (now buffer) ⌝ }
     ensures { λ r. ⌜ (held ≤ r .end) × (r .end ≤ length (now (buffer .entry))) ⌝ }

@@ -26,7 +26,7 @@ use Rattle.interpreter.specs.declared.Shots.{Shots}
 abbrev pub newShots : Shots
 newShots = record { first = opened; second = opened; third = opened; fourth = opened }
 
--- The shot with a number from 1 to 4.
+-- The shot with a number from 1 to 4. (A line that is read as a call has no other.)
 abbrev pub shotOf : Shots → ℕ → Shot
 shotOf shots number =
     cond (eqb number 1) (shots .first) (cond (eqb number 2) (shots .second) (cond (eqb number 3) (shots .third) (shots .fourth)))

@@ -110,7 +110,7 @@ fn answer_fault(shots: Shots, lines: u64, fault: Fault, output: &mut [u8]) -> Se
     }
 }
 
-// Plays a line, which is the last piece of it where it is too long.
+// Answers a line; of one that is too long, the bytes at hand are its last.
 fn answer_line(session: Session, line: &[u8], output: &mut [u8]) -> Session
     requires { ⌜ AllReachable (session .shots) ⌝ }
     requires { ⌜ textLimit ≤ length (now output) ⌝ }
@@ -137,7 +137,7 @@ fn answer_line(session: Session, line: &[u8], output: &mut [u8]) -> Session
     }
 }
 
-// Plays the lines that end within the bytes at hand.
+// Answers the lines that end within the bytes at hand.
 fn answer_lines(session: Session, bytes: &[u8], output: &mut [u8]) -> Progress
     requires { ⌜ AllReachable (session .shots) ⌝ }
     requires { ⌜ textLimit ≤ length (now output) ⌝ }
@@ -182,7 +182,7 @@ fn report(text: &[u8]) {
     io::write_all(STDERR_FILENO, b"\n");
 }
 
-// The script has ended: plays what is left of it, a line without its line feed.
+// The script has ended: answers what is left of it, a line without its line feed.
 fn finish(session: Session, rest: &[u8], output: &mut [u8])
     requires { ⌜ AllReachable (session .shots) ⌝ }
     requires { ⌜ textLimit ≤ length (now output) ⌝ }
@@ -196,7 +196,7 @@ fn finish(session: Session, rest: &[u8], output: &mut [u8])
     }
 }
 
-// Keeps the line that has not ended, after the others have been progress.
+// Keeps the line that has not ended, after the others have been answered.
 fn keep_rest(progress: Progress, end: usize, buffer: &mut [u8]) -> State
     requires { ⌜ AllReachable (progress .session .shots) ⌝ }
     requires { ⌜ (progress .start ≤ end) × (end ≤ length (now buffer)) × (0 < length (now buffer)) ⌝ }
@@ -248,7 +248,7 @@ fn read_more(buffer: &mut [u8], held: usize) -> Arrived
     }
 }
 
-// Reads what there is to read, and plays it.
+// Reads what there is to read, and answers the lines that it ends.
 fn read_and_answer(state: State, buffer: &mut [u8], output: &mut [u8]) -> State
     requires { ⌜ AllReachable (state .session .shots) ⌝ }
     requires { ⌜ state .held < length (now buffer) ⌝ }

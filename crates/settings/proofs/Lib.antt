@@ -1,0 +1,5 @@
+pub mod Bytes
+pub mod Mixing
+pub mod Rounded
+pub mod Accurate
+pub mod Order

@@ -1,4 +1,5 @@
 pub mod EachPixel
 pub mod Lines
 pub mod Loop
+pub mod Strips
 pub mod Written

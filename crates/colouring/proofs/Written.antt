@@ -9,40 +9,43 @@ use lib.Dec.{eqb}
 use lib.ListN.{length}
 use Rattle.refusal.specs.Refusal.{ifAccepted}
 use Rattle.refusal.proofs.Laws.{accepted-leaves, refused-leaves, either-leaves}
-use Rattle.rounding.specs.Fraction.{whole}
 use Rattle.tables.specs.Table.{at, _among_}
 use Rattle.tables.proofs.Laws.{tabulate-member}
-use Rattle.pixel.specs.Accuracy.{factor, mission, PixelAccurate, OwnEnds}
-use Rattle.pixel.specs.Move.{sample, intensity, moved}
-use Rattle.pixel.specs.Paper.{Rounds, exactSample}
+use Rattle.pixel.specs.Accuracy.{OwnEnds}
+use Rattle.pixel.specs.Move.{intensity}
 use Rattle.pixel.specs.Strip.{isWhole, pixelAt, Bytes}
 use Rattle.pixel.specs.declared.Method.{Method}
 use Rattle.pixel.specs.declared.Pixel.{Pixel}
-use Rattle.pixel.proofs.Accurate.{moves-are-accurate}
-use Rattle.pixel.proofs.Paper.{moves-round-the-paper}
 use Rattle.pixel.proofs.Strips.{pixel-in-range, intensity-in-range}
+use Rattle.settings.specs.Accuracy.{AccurateUnder}
+use Rattle.settings.specs.Setting.{SettingInRange, writtenUnder, RoundedUnder}
+use Rattle.settings.specs.declared.Setting.{Setting}
+use Rattle.settings.proofs.Accurate.{settings-are-accurate}
+use Rattle.settings.proofs.Order.{settings-keep-order}
+use Rattle.settings.proofs.Rounded.{settings-round-the-paper}
 use Rattle.curve.specs.Curve.{IsToneCurve}
-use Rattle.colouring.specs.Colouring.{colouredStrip}
-use Rattle.colouring.specs.Written.{Written, WrittenAccurate, WrittenExact, WrittenRounded, pixelsWritten, writtenBy, Colouring, ColouringAccurate, AtMostTwoBelow, colouredPixels, ColouredPixelsAreExact, ColouredPixelsAreRounded, ColouredPixelsAreAccurate, OneCurveKeepsOrder}
+use Rattle.colouring.specs.Colouring.{colouredUnder}
+use Rattle.colouring.specs.Written.{Written, WrittenAccurate, WrittenExact, WrittenRounded, pixelsWritten, writtenBy, Colouring, ColouringAccurate, KeepOrder, colouredPixels, ColouredPixelsAreExact, ColouredPixelsAreRounded, ColouredPixelsAreAccurate, OneCurveKeepsOrder}
 use Rattle.colouring.proofs.EachPixel.{each-pixel-at, each-pixel-length}
 
 -- a coloured strip is as long as its source
-pub coloured-length : (method : Method) (curve source : List ℕ) → isWhole (length source) ≡ true
-    → length (colouredStrip method curve source) ≡ length source
-unfolding colouredStrip
-coloured-length method curve source whole = each-pixel-length (λ p. moved method p (at curve (intensity p))) source whole
+coloured-length : (setting : Setting) (method : Method) (curve source : List ℕ) → isWhole (length source) ≡ true
+    → length (colouredUnder setting method curve source) ≡ length source
+unfolding colouredUnder
+coloured-length setting method curve source whole =
+    each-pixel-length (λ p. writtenUnder setting method (at curve (intensity p)) p) source whole
 
--- each place of a coloured strip holds the source's pixel, moved to the curve's entry for its intensity
-coloured-at : (method : Method) (curve source : List ℕ) (i : ℕ) → i < length source / 3
-    → pixelAt (colouredStrip method curve source) i
-    ≡ moved method (pixelAt source i) (at curve (intensity (pixelAt source i)))
-unfolding colouredStrip
-coloured-at method curve source i h = each-pixel-at (λ p. moved method p (at curve (intensity p))) source i h
+-- each place of a coloured strip holds what the setting's rule gives for the source's pixel
+coloured-at : (setting : Setting) (method : Method) (curve source : List ℕ) (i : ℕ) → i < length source / 3
+    → pixelAt (colouredUnder setting method curve source) i
+    ≡ writtenUnder setting method (at curve (intensity (pixelAt source i))) (pixelAt source i)
+unfolding colouredUnder
+coloured-at setting method curve source i h = each-pixel-at (λ p. writtenUnder setting method (at curve (intensity p)) p) source i h
 
 pub coloured-pixels-are-exact : ColouredPixelsAreExact
-coloured-pixels-are-exact method curve source w m =
+coloured-pixels-are-exact setting method curve source w m =
     let (i, inside, e) = tabulate-member _ (length source / 3) w m in
-    subst WrittenExact (sym e) (coloured-at method curve source i inside)
+    subst WrittenExact (sym e) (coloured-at setting method curve source i inside)
 
 -- a member of what an accepted call has written shows that it was accepted, by the number 0
 pub in-accepted : {A : Type 0} (number : ℕ) (new : List A) (a : A) → a among ifAccepted number new [] → (number ≡ 0) × (a among new)
@@ -57,51 +60,60 @@ own-ends : (curve : List ℕ) → IsToneCurve curve → (p : Pixel) → OwnEnds 
 own-ends curve tone p =
     record { black = λ (e : intensity p ≡ 0). ap (at curve) e ∙ tone .black; white = λ (e : intensity p ≡ 765). ap (at curve) e ∙ tone .white }
 
--- what is known of a pixel that was written by the curve
-record ByCurve (curve : List ℕ) (w : Written) : Type 0 where
+-- what is known of a pixel that was written by the curve under a setting
+record ByCurve (setting : Setting) (curve : List ℕ) (w : Written) : Type 0 where
   rounded : WrittenRounded w
   rules : WrittenAccurate w
+  under : w .setting ≡ setting
   entry : w .entry ≡ at curve (intensity (w .input))
   range : intensity (w .input) ≤ 765
 
 -- that holds of each pixel that a colouring by a tone curve writes
-by-curve : (method : Method) (curve source : List ℕ) → IsToneCurve curve → Bytes source
-    → (w : Written) → w among colouredPixels method curve source → ByCurve curve w
-by-curve method curve source tone bytes w m =
+by-curve : (setting : Setting) (method : Method) (curve source : List ℕ) → SettingInRange setting → IsToneCurve curve → Bytes source
+    → (w : Written) → w among colouredPixels setting method curve source → ByCurve setting curve w
+by-curve setting method curve source ok tone bytes w m =
     let (i, inside, e) = tabulate-member _ (length source / 3) w m in
     let p = pixelAt source i in
     let f = at curve (intensity p) in
     let in-range = pixel-in-range source bytes i in
     let small = intensity-in-range p in-range in
     let target = tone .range (intensity p) small in
-    let accurate = moves-are-accurate method p f in-range target (own-ends curve tone p) in
-    subst (ByCurve curve) (sym e)
+    let is = sym (coloured-at setting method curve source i inside) in
+    subst (ByCurve setting curve) (sym e)
     (record {
-      rounded = λ a.
-          subst (λ (q : Pixel). Rounds (sample q a) (exactSample method p f a)) (sym (coloured-at method curve source i inside))
-          (moves-round-the-paper method p f a in-range target);
-      rules = subst (PixelAccurate mission (factor method (intensity p) f) (whole f) p) (sym (coloured-at method curve source i inside)) accurate;
+      rounded = subst (RoundedUnder setting method f p) is (settings-round-the-paper setting method p f ok in-range target);
+      rules = subst (AccurateUnder setting method f p) is (settings-are-accurate setting method p f ok in-range target (own-ends curve tone p));
+      under = refl;
       entry = refl;
       range = small;
     })
 
 pub coloured-pixels-are-rounded : ColouredPixelsAreRounded
-coloured-pixels-are-rounded method curve source tone bytes w m = by-curve method curve source tone bytes w m .rounded
+coloured-pixels-are-rounded setting method curve source ok tone bytes w m = by-curve setting method curve source ok tone bytes w m .rounded
 
 pub coloured-pixels-are-accurate : ColouredPixelsAreAccurate
-coloured-pixels-are-accurate method curve source tone bytes w m = by-curve method curve source tone bytes w m .rules
+coloured-pixels-are-accurate setting method curve source ok tone bytes w m = by-curve setting method curve source ok tone bytes w m .rules
 
 pub one-curve-keeps-order : OneCurveKeepsOrder
-one-curve-keeps-order m n curve source other tone bytes bytes' v w mv mw le =
-    let first = by-curve m curve source tone bytes v mv in
-    let second = by-curve n curve other tone bytes' w mw in
-    let rises = tone .neverFalls (intensity (v .input)) (intensity (w .input)) le (second .range) in
-    omega (arith, first .rules .sum, second .rules .sum, first .entry, second .entry)
+one-curve-keeps-order setting setting' m n curve source other ok ok' tone bytes bytes' v w mv mw same le =
+    let first = by-curve setting m curve source ok tone bytes v mv in
+    let second = by-curve setting' n curve other ok' tone bytes' w mw in
+    let rises : v .entry ≤ w .entry =
+    omega (
+      arith,
+      tone .neverFalls (intensity (v .input)) (intensity (w .input)) le (second .range),
+      first .entry,
+      second .entry,
+    ) in
+    settings-keep-order (v .setting) (v .method) (w .method) (v .input) (w .input) (v .output) (w .output) (v .entry) (w .entry)
+    (subst SettingInRange (sym (first .under)) ok) le (second .range) rises (first .rules)
+    (subst (λ (s : Setting). AccurateUnder s (w .method) (w .entry) (w .input) (w .output)) (sym same) (second .rules))
 
--- What a colouring leaves, whatever checks gave its number: an accepted one has passed the checks of lengths, has a tone curve where there is
--- a pixel to write, and leaves the coloured source; a refused one leaves what was there.
+-- What a colouring leaves, whatever checks gave its number: an accepted one has passed the checks of lengths and of the dial, has a tone curve
+-- where there is a pixel to write, and leaves the coloured source; a refused one leaves what was there.
 pub record Performed (c : Colouring) : Type 0 where
-  pub left : c .after ≡ ifAccepted (c .number) (colouredStrip (c .method) (c .curve) (c .source)) (c .before)
+  pub left : c .after ≡ ifAccepted (c .number) (colouredUnder (c .setting) (c .method) (c .curve) (c .source)) (c .before)
+  pub setting : c .number ≡ 0 → SettingInRange (c .setting)
   pub whole : c .number ≡ 0 → isWhole (length (c .source)) ≡ true
   pub same : c .number ≡ 0 → length (c .before) ≡ length (c .source)
   pub tone : c .number ≡ 0 → 0 < length (c .source) → IsToneCurve (c .curve)
@@ -111,12 +123,12 @@ pub record Performed (c : Colouring) : Type 0 where
 pub record WrittenIn (c : Colouring) (w : Written) : Type 0 where
   pub accepted : c .number ≡ 0
   pub some : 0 < length (c .source)
-  pub member : w among colouredPixels (c .method) (c .curve) (c .source)
+  pub member : w among colouredPixels (c .setting) (c .method) (c .curve) (c .source)
 
 module _ (c : Colouring) (h : Performed c) where
   -- the source, coloured
   abbrev made : List ℕ
-  made = colouredStrip (c .method) (c .curve) (c .source)
+  made = colouredUnder (c .setting) (c .method) (c .curve) (c .source)
 
   pub written-in : (w : Written) → w among writtenBy c → WrittenIn c w
   written-in w m =
@@ -126,13 +138,13 @@ module _ (c : Colouring) (h : Performed c) where
       record {
         accepted = member .0;
         some = omega arith;
-        member = subst (λ (bytes : List ℕ). w among pixelsWritten (c .method) (c .curve) (c .source) bytes) left (member .1);
+        member = subst (λ (bytes : List ℕ). w among pixelsWritten (c .setting) (c .method) (c .curve) (c .source) bytes) left (member .1);
       }
 
-  by-tone-curve : (w : Written) → w among writtenBy c → ByCurve (c .curve) w
+  by-tone-curve : (w : Written) → w among writtenBy c → ByCurve (c .setting) (c .curve) w
   by-tone-curve w m =
       let is = written-in w m in
-      by-curve (c .method) (c .curve) (c .source) (h .tone (is .accepted) (is .some)) (h .bytes) w (is .member)
+      by-curve (c .setting) (c .method) (c .curve) (c .source) (h .setting (is .accepted)) (h .tone (is .accepted) (is .some)) (h .bytes) w (is .member)
 
   pub colouring-accurate : ColouringAccurate c
   colouring-accurate =
@@ -140,19 +152,20 @@ module _ (c : Colouring) (h : Performed c) where
         size =
             subst (λ (bytes : List ℕ). length bytes ≡ length (c .before)) (sym (h .left))
             (either-leaves (c .number) made (c .before) (λ (bytes : List ℕ). length bytes ≡ length (c .before))
-            (λ e. coloured-length (c .method) (c .curve) (c .source) (h .whole e) ∙ sym (h .same e))
+            (λ e. coloured-length (c .setting) (c .method) (c .curve) (c .source) (h .whole e) ∙ sym (h .same e))
             refl);
         untouched = λ refused. h .left ∙ refused-leaves (c .number) made (c .before) refused;
-        exact = λ w m. coloured-pixels-are-exact (c .method) (c .curve) (c .source) w (written-in w m .member);
+        exact = λ w m. coloured-pixels-are-exact (c .setting) (c .method) (c .curve) (c .source) w (written-in w m .member);
         rounded = λ w m. by-tone-curve w m .rounded;
         rules = λ w m. by-tone-curve w m .rules;
       }
 
 -- the order of two pixels that were written in colourings by one curve
 pub colourings-keep-order : (c d : Colouring) → Performed c → Performed d → c .curve ≡ d .curve
-    → (v w : Written) → v among writtenBy c → w among writtenBy d → AtMostTwoBelow v w
+    → (v w : Written) → v among writtenBy c → w among writtenBy d → KeepOrder v w
 colourings-keep-order c d h k same v w mv mw =
     let first = written-in c h v mv in
-    let second = subst (λ (curve : List ℕ). w among colouredPixels (d .method) curve (d .source)) (sym same) (written-in d k w mw .member) in
-    one-curve-keeps-order (c .method) (d .method) (c .curve) (c .source) (d .source) (h .tone (first .accepted) (first .some)) (h .bytes)
-    (k .bytes) v w (first .member) second
+    let second = written-in d k w mw in
+    one-curve-keeps-order (c .setting) (d .setting) (c .method) (d .method) (c .curve) (c .source) (d .source) (h .setting (first .accepted))
+    (k .setting (second .accepted)) (h .tone (first .accepted) (first .some)) (h .bytes) (k .bytes) v w (first .member)
+    (subst (λ (curve : List ℕ). w among colouredPixels (d .setting) (d .method) curve (d .source)) (sym same) (second .member))

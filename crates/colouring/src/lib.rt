@@ -1,10 +1,15 @@
 // Colouring a strip by a curve and a method (document 01, "Moving a pixel"), along the lines of its intensities.
 ghost use mathlib.Core.Path.{_≡_};
 ghost use Rattle.curve.specs.Curve.{EntriesInRange};
-ghost use Rattle.colouring.specs.Colouring.{colouredStrip};
+ghost use Prim.Native.Nat.{_≤_};
+ghost use lib.ListN.{replicate};
+ghost use Rattle.settings.specs.Setting.{SettingInRange};
+ghost use Rattle.settings.specs.declared.Setting.the-variants.{Mix};
+ghost use Rattle.colouring.specs.Colouring.{colouredStrip, colouredUnder};
 ghost use Rattle.colouring.specs.Inner.{SameSize, alongLines};
 use lines::FixedLine;
 use pixel::Method;
+use settings::Setting;
 
 // Every pixel of the source, moved along the line of its intensity, at the same place of the destination.
 fn colour_by_lines(lines: [FixedLine; 766], source: &[u8], destination: &mut [u8])
@@ -49,4 +54,49 @@ pub fn colour_strip(curve: &[u16; 766], method: Method, source: &[u8], destinati
     ensures { λ _. ⌜ now (destination .exit) ≡ colouredStrip method (now (curve .entry)) (now (source .entry)) ⌝ }
 {
     colour_by_lines(lines::lines_of(curve, method), source, destination);
+}
+
+// The full balance of every pixel of the source, mixed with the source by k / 256.
+fn colour_mixed(k: u32, curve: &[u16; 766], method: Method, source: &[u8], destination: &mut [u8])
+    requires { ⌜ k ≤ 256 ⌝ }
+    requires { ⌜ EntriesInRange (now curve) ⌝ }
+    requires { ⌜ SameSize (now source) (now destination) ⌝ }
+    ensures { λ _. ⌜ now (destination .exit) ≡ colouredUnder (Mix k) method (now (curve .entry)) (now (source .entry)) ⌝ }
+{
+    colour_strip(curve, method, source, destination);
+    // At amount 1 the full balance stays.
+    if k == settings::FULL {
+        return;
+    }
+    settings::mix_bytes(k, source, destination);
+}
+
+// Every pixel of the source, moved to the intensity v: it stands in the place of every entry.
+fn colour_held(v: u32, method: Method, source: &[u8], destination: &mut [u8])
+    requires { ⌜ v ≤ 765 ⌝ }
+    requires { ⌜ SameSize (now source) (now destination) ⌝ }
+    ensures { λ _. ⌜ now (destination .exit) ≡ colouredStrip method (replicate 766 v) (now (source .entry)) ⌝ }
+{
+    let held = [v as u16; 766];
+    colour_strip(&held, method, source, destination);
+}
+
+// Every pixel of the source, coloured under a setting of the dial, at the same place of the destination.
+pub fn colour_under(
+    setting: Setting,
+    curve: &[u16; 766],
+    method: Method,
+    source: &[u8],
+    destination: &mut [u8],
+)
+    requires { ⌜ SettingInRange setting ⌝ }
+    requires { ⌜ EntriesInRange (now curve) ⌝ }
+    requires { ⌜ SameSize (now source) (now destination) ⌝ }
+    ensures { λ _. ⌜ now (destination .exit) ≡ colouredUnder setting method (now (curve .entry)) (now (source .entry)) ⌝ }
+{
+    match setting {
+        Setting::Off => settings::copy_bytes(source, destination),
+        Setting::Mix(k) => colour_mixed(k, curve, method, source, destination),
+        Setting::Hold(v) => colour_held(v, method, source, destination),
+    }
 }

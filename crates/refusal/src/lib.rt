@@ -47,3 +47,9 @@ pub const TOO_FEW_SAMPLES: u32 = 15;
 
 // A file has bytes after its samples.
 pub const BYTES_AFTER_SAMPLES: u32 = 16;
+
+// The dial's amount is not a stop, k / 256 with k from 0 to 256.
+pub const NOT_A_STOP: u32 = 17;
+
+// The dial's held value is not a whole intensity from 0 to 765.
+pub const NOT_AN_INTENSITY: u32 = 18;

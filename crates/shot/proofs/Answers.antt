@@ -5,7 +5,8 @@ use Prim.Native.Nat.{ℕ}
 use borrow.Author.Tests.{eq-eqb, ne-eqb}
 use Rattle.refusal.proofs.Laws.{accepted-leaves, refused-leaves}
 use Rattle.pixel.specs.Methods.{methodOf}
-use Rattle.colouring.specs.Colouring.{colouredStrip}
+use Rattle.dial.specs.Dial.{decoded, settingOf}
+use Rattle.colouring.specs.Colouring.{colouredUnder}
 use Rattle.shot.specs.Shot.{answered, ColourRequest, Outcome, colouringOutcome, coloured}
 use Rattle.shot.specs.declared.Shot.{Shot}
 
@@ -29,6 +30,6 @@ module _ (x : Shot) (q : ColourRequest) (n : ℕ) (e : n ≡ coloured x q .answe
   pub coloured-refused : (n ≡ 0 → ⊥) → coloured x q ≡ left (q .destination)
   coloured-refused refused = coloured-is (q .destination) (sym (refused-leaves n _ _ refused))
 
-  pub coloured-accepted : (bytes : List ℕ) → n ≡ 0 → bytes ≡ colouredStrip (methodOf (q .method)) (x .curve) (q .source)
+  pub coloured-accepted : (bytes : List ℕ) → n ≡ 0 → bytes ≡ colouredUnder (settingOf (decoded (q .dial))) (methodOf (q .method)) (x .curve) (q .source)
       → coloured x q ≡ left bytes
   coloured-accepted bytes zero same = coloured-is bytes (same ∙ sym (accepted-leaves n _ _ zero))

@@ -10,7 +10,9 @@ use lib.ListN.{length}
 use Rattle.tables.specs.Table.{at}
 use Rattle.tables.proofs.Laws.{is-tabulate}
 use Rattle.pixel.specs.Methods.{isMethod}
-use Rattle.colouring.specs.Colouring.{colouredStrip}
+use Rattle.dial.specs.Dial.{decoded, refusalOf}
+use Rattle.dial.specs.declared.Dial.{Dial}
+use Rattle.colouring.specs.Colouring.{colouredUnder}
 use Rattle.shot.specs.Empty.{EmptyStripsChangeNothing}
 use Rattle.shot.specs.Reachable.{Reachable}
 use Rattle.measuring.specs.Histogram.{pixelLimit, withPixels}
@@ -37,11 +39,11 @@ empty-measured x r unfixed =
     sym (simp (unfixed, le-ltb pixelLimit (x .pixels + 0 / 3) (omega (arith, h .limit)))) in
     sym (answer-accepted 0 _ x (withStrip x []) x accepted refl (sym (with-none x (h .size))))
 
-empty-coloured : (x : Shot) (method : ℕ) → x .fixed ≡ true → isMethod method ≡ true
-    → coloured x (record { method = method; source = []; destination = [] })
+empty-coloured : (x : Shot) (method : ℕ) (dial : Dial) → x .fixed ≡ true → isMethod method ≡ true → refusalOf (decoded dial) ≡ 0
+    → coloured x (record { method = method; dial = dial; source = []; destination = [] })
     ≡ record { answer = record { shot = x; number = 0 }; bytes = [] }
-unfolding coloured colouredStrip
-empty-coloured x method fixed known = simp (fixed, known)
+unfolding coloured colouredUnder
+empty-coloured x method dial fixed known set = simp (fixed, known, set)
 
 pub empty-strips-change-nothing : EmptyStripsChangeNothing
 empty-strips-change-nothing = record { measuring = empty-measured; colouring = empty-coloured }

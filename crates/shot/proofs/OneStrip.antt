@@ -13,7 +13,8 @@ use Rattle.measuring.specs.Histogram.{pixelLimit, pixelsIn}
 use Rattle.curve.specs.Choices.{isChoice}
 use Rattle.curve.specs.Curve.{curveOf}
 use Rattle.strip_curve.proofs.Laws.{StripAccepted}
-use Rattle.colouring.specs.Colouring.{colouredStrip}
+use Rattle.dial.specs.Dial.{decoded, refusalOf, settingOf}
+use Rattle.colouring.specs.Colouring.{colouredUnder}
 use Rattle.shot.specs.Shot.{opened, withStrip, measured, withCurve, fixedWith, ColourRequest, coloured}
 use Rattle.shot.specs.declared.Answer.{Answer}
 use Rattle.shot.specs.declared.Shot.{Shot}
@@ -74,11 +75,11 @@ module _ (strip : List ℕ) (bytes : Bytes strip) (choice : ℕ) (known : isChoi
 
   -- colouring from it accepts every fitting request, and writes by that curve
   pub colour-accepted : (q : ColourRequest) → isMethod (q .method) ≡ true → isWhole (length (q .source)) ≡ true
-      → length (q .destination) ≡ length (q .source)
+      → length (q .destination) ≡ length (q .source) → refusalOf (decoded (q .dial)) ≡ 0
       → coloured (fixing-it .shot) q
       ≡ record {
         answer = record { shot = fixing-it .shot; number = 0 };
-        bytes = colouredStrip (methodOf (q .method)) (curveOf choice (strip ∷ [])) (q .source);
+        bytes = colouredUnder (settingOf (decoded (q .dial))) (methodOf (q .method)) (curveOf choice (strip ∷ [])) (q .source);
       }
   unfolding coloured
-  colour-accepted q method whole same = rw (is-fixed, method, whole, eq-eqb _ _ same, curve-is) refl
+  colour-accepted q method whole same set = rw (is-fixed, method, whole, eq-eqb _ _ same, set, curve-is) refl

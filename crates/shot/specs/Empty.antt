@@ -4,6 +4,8 @@ use mathlib.Core.Bool.{true, false}
 use mathlib.Core.List.{[]}
 use Prim.Native.Nat.{ℕ}
 use Rattle.pixel.specs.Methods.{isMethod}
+use Rattle.dial.specs.Dial.{decoded, refusalOf}
+use Rattle.dial.specs.declared.Dial.{Dial}
 use Rattle.shot.specs.Reachable.{Reachable}
 use Rattle.shot.specs.Shot.{measured, coloured}
 use Rattle.shot.specs.declared.Shot.{Shot}
@@ -12,6 +14,6 @@ use Rattle.shot.specs.declared.Shot.{Shot}
 -- Proved: proofs/Empty.antt, `empty-strips-change-nothing`.
 pub record EmptyStripsChangeNothing : Type 0 where
   pub measuring : (x : Shot) → Reachable x → x .fixed ≡ false → measured x [] ≡ record { shot = x; number = 0 }
-  pub colouring : (x : Shot) (method : ℕ) → x .fixed ≡ true → isMethod method ≡ true
-      → coloured x (record { method = method; source = []; destination = [] })
+  pub colouring : (x : Shot) (method : ℕ) (dial : Dial) → x .fixed ≡ true → isMethod method ≡ true → refusalOf (decoded dial) ≡ 0
+      → coloured x (record { method = method; dial = dial; source = []; destination = [] })
       ≡ record { answer = record { shot = x; number = 0 }; bytes = [] }

@@ -7,9 +7,11 @@ use lib.ListN.{length, replicate}
 use Rattle.refusal.specs.Refusal.{Check, _refuses_, firstOf, ifAccepted}
 use Rattle.pixel.specs.Methods.{isMethod, methodOf}
 use Rattle.pixel.specs.Strip.{isWhole, pixelsOf}
+use Rattle.dial.specs.Dial.{decoded, refusalOf, settingOf}
+use Rattle.dial.specs.declared.Dial.{Dial}
 use Rattle.curve.specs.Choices.{isChoice, choiceOf}
 use Rattle.curve.specs.Curve.{toneCurve}
-use Rattle.colouring.specs.Colouring.{colouredStrip}
+use Rattle.colouring.specs.Colouring.{colouredUnder}
 use Rattle.measuring.specs.Histogram.{pixelLimit, withPixels, cumulative}
 use Rattle.shot.specs.declared.Shot.{Shot}
 use Rattle.shot.specs.declared.Answer.{Answer}
@@ -63,9 +65,10 @@ unfoldable pub fixedWith : Shot → ℕ → Answer
 fixedWith x choice =
     answered (firstOf (fixChecks (x .fixed) (isChoice choice) (eqb (x .pixels) 0))) (withCurve x choice) x
 
--- What a colouring brings besides the shot.
+-- What a colouring brings besides the shot: the method's number, the dial as the panel sends it, and the runs.
 pub record ColourRequest : Type 0 where
   pub method : ℕ
+  pub dial : Dial
   pub source : List ℕ
   pub destination : List ℕ
 
@@ -74,26 +77,35 @@ pub record Outcome : Type 0 where
   pub answer : Answer
   pub bytes : List ℕ
 
--- Colour 6, 7, 2, 8. 6: a shot not fixed. 7: the method is not 1 or 2. 2: the source's length is not a multiple of 3. 8: destination
--- and source differ in length.
-abbrev pub colourChecks : (fixed known whole same : Bool) → List Check
-colourChecks fixed known whole same =
-    not fixed refuses 6 ∷ not known refuses 7 ∷ not whole refuses 2 ∷ not same refuses 8 ∷ []
+-- Colour 6, 7, 2, 8, then 17 or 18. 6: a shot not fixed. 7: the method is not 1 or 2. 2: the source's length is not a multiple of 3. 8:
+-- destination and source differ in length. 17: the amount is not a stop. 18: the held value is not a whole intensity.
+abbrev pub colourChecks : (fixed known whole same stop held : Bool) → List Check
+colourChecks fixed known whole same stop held =
+    not fixed refuses 6
+    ∷ not known refuses 7
+    ∷ not whole refuses 2
+    ∷ not same refuses 8
+    ∷ not stop refuses 17
+    ∷ not held refuses 18
+    ∷ []
 
--- What a colouring with this number leaves: an accepted one writes every source pixel, moved to the curve's entry for its
--- intensity; a refused one touches no byte. Both hand back the shot as it is.
+-- What a colouring with this number leaves: an accepted one writes every source pixel, as the dial's setting has it, by the curve's entry for
+-- its intensity; a refused one touches no byte. Both hand back the shot as it is.
 abbrev pub colouringOutcome : ℕ → Shot → ColourRequest → Outcome
 colouringOutcome number x q =
     record {
       answer = record { shot = x; number = number };
-      bytes = ifAccepted number (colouredStrip (methodOf (q .method)) (x .curve) (q .source)) (q .destination);
+      bytes =
+          ifAccepted number (colouredUnder (settingOf (decoded (q .dial))) (methodOf (q .method)) (x .curve) (q .source)) (q .destination);
     }
+
+-- The number of a colouring.
+abbrev pub colourNumber : Shot → ColourRequest → ℕ
+colourNumber x q =
+    firstOf
+    (colourChecks (x .fixed) (isMethod (q .method)) (isWhole (length (q .source))) (eqb (length (q .destination)) (length (q .source)))
+    (not (eqb (refusalOf (decoded (q .dial))) 17)) (not (eqb (refusalOf (decoded (q .dial))) 18)))
 
 -- What colouring leaves.
 unfoldable pub coloured : Shot → ColourRequest → Outcome
-coloured x q =
-    colouringOutcome
-    (firstOf
-    (colourChecks (x .fixed) (isMethod (q .method)) (isWhole (length (q .source))) (eqb (length (q .destination)) (length (q .source)))))
-    x
-    q
+coloured x q = colouringOutcome (colourNumber x q) x q

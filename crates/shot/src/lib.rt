@@ -3,6 +3,7 @@ ghost use mathlib.Core.Path.{_≡_};
 ghost use Rattle.refusal.specs.Refusal.{firstOf};
 ghost use Rattle.shot.specs.Reachable.{Reachable};
 ghost use Rattle.shot.specs.Shot.{opened, measureChecks, measured, fixChecks, fixedWith, colourChecks, coloured};
+use dial::Dial;
 
 // A shot's state: how many of its pixels have each intensity, how many they are, and, once it is fixed, its tone curve. Nothing
 // reads the curve of a shot that is not fixed. The counts stay after fixing.
@@ -51,9 +52,9 @@ fn fix_refusal(fixed: bool, known: bool, empty: bool) -> u32
     0
 }
 
-// Colour 6, 7, 2, 8: 0, or the number of the first that applies.
-fn colour_refusal(fixed: bool, known: bool, whole: bool, same: bool) -> u32
-    ensures { λ r. ⌜ r ≡ firstOf (colourChecks fixed known whole same) ⌝ }
+// Colour 6, 7, 2, 8, then 17 or 18: 0, or the number of the first that applies.
+fn colour_refusal(fixed: bool, known: bool, whole: bool, same: bool, stop: bool, held: bool) -> u32
+    ensures { λ r. ⌜ r ≡ firstOf (colourChecks fixed known whole same stop held) ⌝ }
 {
     if !fixed {
         return refusal::NOT_FIXED;
@@ -66,6 +67,12 @@ fn colour_refusal(fixed: bool, known: bool, whole: bool, same: bool) -> u32
     }
     if !same {
         return refusal::LENGTHS_DIFFER;
+    }
+    if !stop {
+        return refusal::NOT_A_STOP;
+    }
+    if !held {
+        return refusal::NOT_AN_INTENSITY;
     }
     0
 }
@@ -129,20 +136,32 @@ impl Shot {
         Answer { shot, number }
     }
 
-    // Colours the source into the destination by the shot's curve, and hands the shot back as it is. Refused: 6, 7, 2, 8.
-    pub fn colour(self, method: u32, source: &[u8], destination: &mut [u8]) -> Answer
+    // Colours the source into the destination by the shot's curve, as the dial has it, and hands the shot back as it is. Refused: 6, 7, 2, 8,
+    // 17 or 18.
+    pub fn colour(self, method: u32, dial: Dial, source: &[u8], destination: &mut [u8]) -> Answer
         requires { ⌜ Reachable self ⌝ }
-        ensures { λ r. ⌜ coloured self (record { method = method; source = now (source .entry); destination = now (destination .entry) }) ≡ record { answer = r; bytes = now (destination .exit) } ⌝ }
+        ensures { λ r. ⌜ coloured self (record { method = method; dial = dial; source = now (source .entry); destination = now (destination .entry) }) ≡ record { answer = r; bytes = now (destination .exit) } ⌝ }
     {
+        let decoded = dial::decode(dial);
+        let refused = dial::refusal_of(decoded);
         let number = colour_refusal(
             self.fixed,
             pixel::is_method(method),
             source.len() % 3 == 0,
             destination.len() == source.len(),
+            refused != refusal::NOT_A_STOP,
+            refused != refusal::NOT_AN_INTENSITY,
         );
         if number == 0 {
             let curve = self.curve;
-            colouring::colour_strip(&curve, pixel::method_of(method), source, destination);
+            let setting = dial::setting_of(decoded);
+            colouring::colour_under(
+                setting,
+                &curve,
+                pixel::method_of(method),
+                source,
+                destination,
+            );
         }
         Answer { shot: self, number }
     }

@@ -1,0 +1,5 @@
+pub mod Exact
+pub mod Machine
+pub mod Product
+pub mod Examples
+pub mod Range

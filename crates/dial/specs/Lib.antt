@@ -1,0 +1,2 @@
+pub mod Dial
+pub mod Examples

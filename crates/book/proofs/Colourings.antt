@@ -1,5 +1,5 @@
 -- What each call leaves, taken as a colouring by the book's curve.
-use mathlib.Core.Path.{_≡_, refl, sym, ap, _∙_, subst}
+use mathlib.Core.Path.{_≡_, refl, sym, ap, ap₂, _∙_, subst}
 use mathlib.Core.Bool.{Bool, true, false, cond, false≢true}
 use mathlib.Core.List.{List, []}
 use mathlib.Core.Option.{Option, none, some}
@@ -12,7 +12,10 @@ use Rattle.refusal.specs.Refusal.{ifAccepted}
 use Rattle.tables.proofs.Cases.{cond-same}
 use Rattle.pixel.specs.Methods.{methodOf}
 use Rattle.curve.specs.Curve.{IsToneCurve}
-use Rattle.colouring.specs.Colouring.{colouredStrip}
+use Rattle.settings.specs.Setting.{SettingInRange}
+use Rattle.settings.specs.declared.Setting.{Setting}
+use Rattle.dial.proofs.Range.{setting-in-range}
+use Rattle.colouring.specs.Colouring.{colouredUnder}
 use Rattle.colouring.proofs.Written.{Performed}
 use Rattle.shot.specs.Shot.{ColourRequest, coloured}
 use Rattle.shot.specs.declared.Answer.{Answer}
@@ -21,6 +24,7 @@ use Rattle.shot.proofs.Passed.{colour-passed}
 use Rattle.book.specs.Accuracy.{requested, entries, colouringOf}
 use Rattle.book.specs.Book.{Call, Call.opening, Call.measuring, Call.fixing, Call.colouring, Book, hasCurve}
 use Rattle.book.specs.Run.{step, WellFormed}
+use Rattle.book.proofs.Reading.{reads}
 use Rattle.book.proofs.Represents.{HoldsBook, shape}
 
 -- what is the same where the call is accepted leaves the same
@@ -58,9 +62,10 @@ module _ {x : Shot} {b : Book} (h : HoldsBook x b) where
 
   -- a call that asks for no pixel
   none-asked : (answer : Answer) → Performed (colouringOf b opening (record { answer = answer; bytes = [] }))
-  unfolding colouredStrip
+  unfolding colouredUnder
   none-asked answer = record {
     left = sym (cond-same (eqb (answer .number) 0) []);
+    setting = λ e. tt;
     whole = λ e. refl;
     same = λ e. refl;
     tone = λ e l. absurd (omega arith);
@@ -73,14 +78,18 @@ module _ {x : Shot} {b : Book} (h : HoldsBook x b) where
   performed opening ok = none-asked (step x opening .answer)
   performed (measuring strip) ok = none-asked (step x (measuring strip) .answer)
   performed (fixing choice) ok = none-asked (step x (fixing choice) .answer)
-  performed (colouring q) ok = record {
-    left =
-        same-left (coloured x q .answer .number) _ _ (q .destination)
-        (λ e.
-        let (curve, is) = colouring-curve q e in
-        ap (λ (l : List ℕ). colouredStrip (methodOf (q .method)) l (q .source)) (h .curve curve is ∙ sym (ap entries is)));
-    whole = λ e. colour-passed x q e .whole;
-    same = λ e. colour-passed x q e .same;
-    tone = tone (colouring q);
-    bytes = ok;
-  }
+  performed (colouring q) ok =
+      let read = reads (q .dial) .setting in
+      record {
+        left =
+            same-left (coloured x q .answer .number) _ _ (q .destination)
+            (λ e.
+            let (curve, is) = colouring-curve q e in
+            ap₂ (λ (s : Setting) (l : List ℕ). colouredUnder s (methodOf (q .method)) l (q .source)) (sym read)
+            (h .curve curve is ∙ sym (ap entries is)));
+        setting = λ e. subst SettingInRange (sym read) (setting-in-range (q .dial));
+        whole = λ e. colour-passed x q e .whole;
+        same = λ e. colour-passed x q e .same;
+        tone = tone (colouring q);
+        bytes = ok;
+      }

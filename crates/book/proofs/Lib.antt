@@ -1,4 +1,5 @@
 pub mod Run
+pub mod Reading
 pub mod Represents
 pub mod Steps
 pub mod Colourings

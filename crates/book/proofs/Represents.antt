@@ -19,6 +19,7 @@ use Rattle.shot.proofs.Passed.{MeasuringAccepted, measure-passed, FixingAccepte
 use Rattle.book.specs.Accuracy.{Represents}
 use Rattle.book.specs.Book.{Call, Call.opening, Call.measuring, Call.fixing, Call.colouring, Book, emptyBook, hasCurve, expectedAnswer, entered, bookStep}
 use Rattle.book.specs.Run.{step, WellFormed}
+use Rattle.book.proofs.Reading.{reads}
 
 -- the shot holds the book's pixels, and is fixed exactly if the book has a curve, by that curve
 pub record HoldsBook (x : Shot) (b : Book) : Type 0 where
@@ -62,7 +63,9 @@ unfolding measured fixedWith coloured
 answers-agree r opening = refl
 answers-agree r (measuring strip) = simp (r .fixed, r .pixels, length-pixels strip)
 answers-agree r (fixing choice) = simp (r .fixed, r .pixels)
-answers-agree r (colouring q) = simp (r .fixed)
+answers-agree r (colouring q) =
+    let read = reads (q .dial) in
+    simp (r .fixed, read .stop, read .intensity)
 
 -- one number decides both
 both : {x y : Shot} {b d : Book} (n m : ℕ) → n ≡ m → (n ≡ 0 → HoldsBook y d) → HoldsBook x b → HoldsBook (ifAccepted n y x) (ifAccepted m d b)

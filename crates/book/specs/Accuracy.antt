@@ -11,11 +11,13 @@ use Rattle.tables.specs.Table.{at, _among_}
 use Rattle.pixel.specs.Methods.{methodOf}
 use Rattle.curve.specs.Curve.{curveOf, IsToneCurve}
 use Rattle.measuring.specs.Histogram.{pixelLimit, pixelsIn, countOf, countUpTo, cumulative}
-use Rattle.colouring.specs.Written.{Written, WrittenRounded, Colouring, writtenBy, ColouringAccurate, AtMostTwoBelow}
+use Rattle.colouring.specs.Written.{Written, WrittenRounded, Colouring, writtenBy, ColouringAccurate, KeepOrder}
+use Rattle.dial.specs.declared.Dial.the-variants as D
 use Rattle.shot.specs.Reachable.{Reachable}
 use Rattle.shot.specs.Shot.{ColourRequest, Outcome}
 use Rattle.shot.specs.declared.Shot.{Shot}
 use Rattle.book.specs.Book.{Call, Call.opening, Call.measuring, Call.fixing, Call.colouring, Book, hasCurve, expectedAnswer}
+use Rattle.book.specs.Reading.{settingRead}
 use Rattle.book.specs.Run.{Step, number, trace, Occurs, WellFormed}
 
 -- What the shot keeps is what the book holds.
@@ -59,7 +61,7 @@ pub record FixedBy (n : ℕ) (steps : List Step) (curve : List ℕ) : Type 0 whe
 
 -- A request for no pixel.
 abbrev pub noRequest : ColourRequest
-noRequest = record { method = 1; source = []; destination = [] }
+noRequest = record { method = 1; dial = D.Off; source = []; destination = [] }
 
 -- What a call asks to be coloured.
 abbrev pub requested : Call → ColourRequest
@@ -73,11 +75,13 @@ abbrev pub entries : Option (List ℕ) → List ℕ
 entries none = []
 entries (some curve) = curve
 
--- A call with its outcome, taken as a colouring by the book's curve: a call that asks for no pixel is a colouring of none.
+-- A call with its outcome, taken as a colouring by the book's curve and the dial as the book reads it: a call that asks for no pixel is a
+-- colouring of none.
 abbrev pub colouringOf : Book → Call → Outcome → Colouring
 colouringOf b c o =
     record {
       number = o .answer .number;
+      setting = settingRead (requested c .dial);
       method = methodOf (requested c .method);
       curve = entries (b .curve);
       source = requested c .source;
@@ -108,18 +112,20 @@ pub record StepAccurate (before : List Step) (t : Step) : Type 0 where
   -- a curve has 766 entries, the first 0 and the last 765, none above 765 and none less than the one before
   pub shape : (c : List ℕ) → t .book .curve ≡ some c → IsToneCurve c
   -- a colouring leaves the destination as long as it was, and a refused one leaves every byte of it; every pixel written is exact
-  -- (demand 2), and "every pixel written keeps four rules"
+  -- (demand 2), and "every pixel written keeps four rules", as its command has them
   pub colouring : ColouringAccurate (colouringIn t)
 
 -- What holds of a list of calls. (What the last call leaves is covered too: the next step of a longer list starts from it.)
 pub record Accurate (calls : List Call) : Type 0 where
   pub steps : (before : List Step) (t : Step) → Occurs (trace calls) before t → StepAccurate before t
   -- "and of any two pixels of the same shot, whichever colourings and methods wrote them, the one whose input sum is no smaller has
-  -- a sum at most two below the other's"
+  -- a sum at most two below the other's"; by document 02, wish 1, under a mix at most five, and "only pixels coloured under one command
+  -- with one amount or held value" are compared
   pub order : (before before' : List Step) (t u : Step) → Occurs (trace calls) before t → Occurs (trace calls) before' u
-      → t .openings ≡ u .openings → (v w : Written) → v among written t → w among written u → AtMostTwoBelow v w
+      → t .openings ≡ u .openings → (v w : Written) → v among written t → w among written u → KeepOrder v w
 
--- Claim: demand 2 for every pixel written in a list of calls: each sample is the exact value of the paper's formula, rounded once. Proved:
+-- Claim: demand 2 for every pixel written in a list of calls: each sample is the exact value of the paper's formula, rounded once, of a held
+-- move to the held value and of the full balance that a mix takes; the floor of the mix, and off's copy, beside it. Proved:
 -- proofs/Accuracy.antt, `calls-round-the-paper`.
 abbrev pub CallsRoundThePaper : Type 0
 CallsRoundThePaper =

@@ -13,6 +13,7 @@ use Rattle.measuring.specs.Histogram.{pixelLimit, pixelsIn}
 use Rattle.curve.specs.Choices.{isChoice}
 use Rattle.curve.specs.Curve.{curveOf}
 use Rattle.shot.specs.Shot.{ColourRequest}
+use Rattle.book.specs.Reading.{amountIsStop, valueIsIntensity}
 
 -- A call, with what it brings besides the shot.
 pub data Call : Type 0 where
@@ -47,12 +48,15 @@ bookChecks b (measuring strip) =
 -- "refused 1 if there is a curve, then 4 for the choice, then 5 if the book holds no pixel"
 bookChecks b (fixing choice) =
     hasCurve (b .curve) refuses 1 ∷ not (isChoice choice) refuses 4 ∷ eqb (length (pixelsIn (b .strips))) 0 refuses 5 ∷ []
--- "refused 6 if there is no curve, then 7, 2, 8"
+-- "refused 6 if there is no curve, then 7, 2, 8"; "amount not a stop, 17; held value not such a whole number, 18; either after all of
+-- colouring's other checks"
 bookChecks b (colouring q) =
     not (hasCurve (b .curve)) refuses 6
     ∷ not (isMethod (q .method)) refuses 7
     ∷ not (isWhole (length (q .source))) refuses 2
     ∷ not (eqb (length (q .destination)) (length (q .source))) refuses 8
+    ∷ not (amountIsStop (q .dial)) refuses 17
+    ∷ not (valueIsIntensity (q .dial)) refuses 18
     ∷ []
 
 -- The answer that the book has for a call: 0, or the number of the first refusal that applies.

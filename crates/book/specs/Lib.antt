@@ -1,3 +1,4 @@
+pub mod Reading
 pub mod Book
 pub mod Run
 pub mod Accuracy

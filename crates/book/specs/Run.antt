@@ -61,7 +61,8 @@ pub record Occurs (steps before : List Step) (t : Step) : Type 0 where
   pub after : List Step
   pub split : steps ≡ before ++ (t ∷ after)
 
--- What is asked of what a call brings: samples are bytes. A strip may have any length, and choice and method may be any numbers.
+-- What is asked of what a call brings: samples are bytes. A strip may have any length, choice and method may be any numbers, and a dial may
+-- carry any float, NaN included.
 abbrev pub WellFormed : Call → Type 0
 WellFormed opening = Unit {0}
 WellFormed (measuring strip) = Bytes strip

@@ -4,6 +4,7 @@ ghost use mathlib.Core.Path.{_≡_};
 ghost use Rattle.shot.specs.Reachable.{Reachable};
 ghost use Rattle.book.specs.Book.{Call.opening, Call.measuring, Call.fixing, Call.colouring};
 ghost use Rattle.book.specs.Run.{step};
+use dial::Dial;
 use shot::Answer;
 use shot::Shot;
 
@@ -34,9 +35,9 @@ pub fn fix(shot: Shot, choice: u32) -> Answer
 }
 
 // Colours the source into the destination, by the shot's own call.
-pub fn colour(shot: Shot, method: u32, source: &[u8], destination: &mut [u8]) -> Answer
+pub fn colour(shot: Shot, method: u32, dial: Dial, source: &[u8], destination: &mut [u8]) -> Answer
     requires { ⌜ Reachable shot ⌝ }
-    ensures { λ r. ⌜ step shot (colouring (record { method = method; source = now (source .entry); destination = now (destination .entry) })) ≡ record { answer = r; bytes = now (destination .exit) } ⌝ }
+    ensures { λ r. ⌜ step shot (colouring (record { method = method; dial = dial; source = now (source .entry); destination = now (destination .entry) })) ≡ record { answer = r; bytes = now (destination .exit) } ⌝ }
 {
-    shot.colour(method, source, destination)
+    shot.colour(method, dial, source, destination)
 }

@@ -11,7 +11,7 @@ use Rattle.text.proofs.Runs.{writes-room, writes-length}
 use Rattle.hexadecimal.specs.Hexadecimal.{encoded}
 use Rattle.hexadecimal.proofs.Hexadecimal.{length-encoded}
 use Rattle.words.specs.declared.Fault.{Fault}
-use Rattle.words.specs.declared.Fault.the-variants.{TooLong, NoSuchCall, TooFewWords, TooManyWords, NotANumber, NoSuchShot, NotPairs, NotAPixel}
+use Rattle.words.specs.declared.Fault.the-variants.{TooLong, NoSuchCall, TooFewWords, TooManyWords, NotANumber, NoSuchShot, NotPairs, NotAPixel, NoSuchDial, NotAFloat}
 use Rattle.answers.specs.Answers.{stripText, reasonText, textLimit, WritesAnswer}
 
 -- a number of 64 bits has at most 20 digits
@@ -32,7 +32,7 @@ strip-size [] = omega arith
 strip-size (byte ∷ bytes) = omega (arith, length-encoded (byte ∷ bytes))
 
 -- a reason
-pub reason-size : (fault : Fault) → length (reasonText fault) ≤ 33
+pub reason-size : (fault : Fault) → length (reasonText fault) ≤ 45
 reason-size TooLong = omega arith
 reason-size NoSuchCall = omega arith
 reason-size TooFewWords = omega arith
@@ -41,6 +41,8 @@ reason-size NotANumber = omega arith
 reason-size NoSuchShot = omega arith
 reason-size NotPairs = omega arith
 reason-size NotAPixel = omega arith
+reason-size NoSuchDial = omega arith
+reason-size NotAFloat = omega arith
 
 -- For callers: an answer stays within an output that has room for every answer, and leaves its length.
 module _ {text before after : List ℕ} {size : ℕ} (room : textLimit ≤ length before) (wrote : WritesAnswer text before size after) where

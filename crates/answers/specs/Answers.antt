@@ -6,7 +6,7 @@ use Rattle.text.specs.Text.{ascii, Writes}
 use Rattle.hexadecimal.specs.Hexadecimal.{encoded}
 use Rattle.script.specs.Script.{lineLimit}
 use Rattle.words.specs.declared.Fault.{Fault}
-use Rattle.words.specs.declared.Fault.the-variants.{TooLong, NoSuchCall, TooFewWords, TooManyWords, NotANumber, NoSuchShot, NotPairs, NotAPixel}
+use Rattle.words.specs.declared.Fault.the-variants.{TooLong, NoSuchCall, TooFewWords, TooManyWords, NotANumber, NoSuchShot, NotPairs, NotAPixel, NoSuchDial, NotAFloat}
 
 -- The answer of open, measure and fix: the number.
 abbrev pub numberText : ℕ → List ℕ
@@ -31,6 +31,8 @@ reasonText NotANumber = ascii "not a number from 0 to 4294967295"
 reasonText NoSuchShot = ascii "no such shot"
 reasonText NotPairs = ascii "not pairs of hexadecimal digits"
 reasonText NotAPixel = ascii "not six hexadecimal digits"
+reasonText NoSuchDial = ascii "no such dial command"
+reasonText NotAFloat = ascii "not a float: eight hexadecimal digits, or nan"
 
 -- The answer to a line that is no call, by its number.
 unfoldable pub faultText : Fault → ℕ → List ℕ

@@ -13,23 +13,24 @@ use Rattle.tables.specs.Table.{at, _among_}
 use Rattle.tables.proofs.Laws.{tabulate-member}
 use Rattle.pixel.specs.Accuracy.{OwnEnds}
 use Rattle.pixel.specs.Move.{intensity}
+use Rattle.pixel.specs.Paper.{Rounds, exactSample}
 use Rattle.pixel.specs.Strip.{isWhole, pixelAt, Bytes}
 use Rattle.pixel.specs.declared.Method.{Method}
 use Rattle.pixel.specs.declared.Pixel.{Pixel}
 use Rattle.pixel.proofs.Strips.{pixel-in-range, intensity-in-range}
-use Rattle.settings.specs.Accuracy.{AccurateUnder}
-use Rattle.settings.specs.Setting.{SettingInRange, writtenUnder, RoundedUnder}
+use Rattle.settings.specs.Accuracy.{toleranceUnder, AccurateUnder}
+use Rattle.settings.specs.Setting.{SettingInRange, full, writtenUnder, RoundedUnder}
 use Rattle.settings.specs.declared.Setting.{Setting}
 use Rattle.settings.proofs.Accurate.{settings-are-accurate}
 use Rattle.settings.proofs.Order.{settings-keep-order}
 use Rattle.settings.proofs.Rounded.{settings-round-the-paper}
 use Rattle.curve.specs.Curve.{IsToneCurve}
 use Rattle.colouring.specs.Colouring.{colouredUnder}
-use Rattle.colouring.specs.Written.{Written, WrittenAccurate, WrittenExact, WrittenRounded, pixelsWritten, writtenBy, Colouring, ColouringAccurate, KeepOrder, colouredPixels, ColouredPixelsAreExact, ColouredPixelsAreRounded, ColouredPixelsAreAccurate, OneCurveKeepsOrder}
+use Rattle.colouring.specs.Written.{Written, WrittenAccurate, WrittenExact, WrittenRounded, BalanceAccurate, BalanceRounded, AtMostBelow, AtMostTwoBelow, pixelsWritten, writtenBy, Colouring, ColouringAccurate, KeepOrder, colouredPixels, ColouredPixelsAreExact, ColouredPixelsAreRounded, ColouredPixelsAreAccurate, OneCurveKeepsOrder}
 use Rattle.colouring.proofs.EachPixel.{each-pixel-at, each-pixel-length}
 
 -- a coloured strip is as long as its source
-coloured-length : (setting : Setting) (method : Method) (curve source : List ℕ) → isWhole (length source) ≡ true
+pub coloured-length : (setting : Setting) (method : Method) (curve source : List ℕ) → isWhole (length source) ≡ true
     → length (colouredUnder setting method curve source) ≡ length source
 unfolding colouredUnder
 coloured-length setting method curve source whole =
@@ -169,3 +170,32 @@ colourings-keep-order c d h k same v w mv mw =
     one-curve-keeps-order (c .setting) (d .setting) (c .method) (d .method) (c .curve) (c .source) (d .source) (h .setting (first .accepted))
     (k .setting (second .accepted)) (h .tone (first .accepted) (first .some)) (h .bytes) (k .bytes) v w (first .member)
     (subst (λ (curve : List ℕ). w among colouredPixels (d .setting) (d .method) curve (d .source)) (sym same) (second .member))
+
+-- what a colouring at amount 1 writes keeps the mission's own rules, is the paper's, rounded once, and keeps the mission's order
+pub record Balanced (w : Written) : Type 0 where
+  pub setting : w .setting ≡ full
+  pub rounded : BalanceRounded w
+  pub rules : BalanceAccurate w
+
+-- a pixel written under amount 1
+balanced-by : (curve : List ℕ) (w : Written) → ByCurve full curve w → Balanced w
+balanced-by curve w by =
+    let accurate = subst (λ (s : Setting). AccurateUnder s (w .method) (w .entry) (w .input) (w .output)) (by .under) (by .rules) in
+    let mixed = subst (λ (s : Setting). RoundedUnder s (w .method) (w .entry) (w .input) (w .output)) (by .under) (by .rounded) in
+    record {
+      setting = by .under;
+      rounded = λ a. subst (λ (n : ℕ). Rounds n (exactSample (w .method) (w .input) (w .entry) a)) (omega (arith, mixed .floor a)) (mixed .rounded a);
+      rules = accurate .beside refl;
+    }
+
+pub coloured-pixels-are-balanced : (method : Method) (curve source : List ℕ) → IsToneCurve curve → Bytes source
+    → (w : Written) → w among colouredPixels full method curve source → Balanced w
+coloured-pixels-are-balanced method curve source tone bytes w m =
+    balanced-by curve w (by-curve full method curve source (omega arith) tone bytes w m)
+
+pub full-balanced : (c : Colouring) → Performed c → c .setting ≡ full → (w : Written) → w among writtenBy c → Balanced w
+full-balanced c h is w m = balanced-by (c .curve) w (subst (λ (s : Setting). ByCurve s (c .curve) w) is (by-tone-curve c h w m))
+
+pub balances-keep-order : {v w : Written} → Balanced v → Balanced w → KeepOrder v w → AtMostTwoBelow v w
+balances-keep-order {v} {w} b b' keep =
+    subst (λ (s : Setting). AtMostBelow (toleranceUnder s .below) v w) (b .setting) (keep (b .setting ∙ sym (b' .setting)))

@@ -15,7 +15,7 @@ use Rattle.dial.specs.declared.Decoded.the-variants.{Set}
 use Rattle.dial.specs.declared.Whole.{Whole}
 use Rattle.dial.specs.declared.Whole.the-variants.{Is, Not}
 
--- a whole number that was found passed the test
+-- a whole number is found only where the test holds
 passed : (t : Bool) (j k : ℕ) → cond t (Is j) Not ≡ Is k → (t ≡ true) × (j ≡ k)
 passed true j k e = (refl, cc)
 passed false j k e = (cc, cc)
@@ -43,7 +43,7 @@ complete n top (fin s m e) k range (sign, value) =
     let only : num / down e ≡ k = ap (λ (a : ℕ). a / down e) value ∙ mul-div-cancel k (down-pos e) in
     ap (wholeIf s num (down e) top) only ∙ simp (sign, eq-eqb num (k * down e) value, le-leb k top range)
 
--- where it is no such k / n, it has none
+-- and where it is no such k / n, it has none
 pub none : (n top : ℕ) (x : Float) → ((k : ℕ) → k ≤ top → IsExactly x k n → ⊥) → wholeOf n top x ≡ Not
 none n top x never = go (wholeOf n top x) refl
   where
@@ -51,7 +51,7 @@ none n top x never = go (wholeOf n top x) refl
     go (Is k) found = let (range, exact) = sound n top x k found in absurd (never k range exact)
     go Not found = refl
 
--- two floats that are the same numbers, one over n and the other over 1, have one whole number
+-- where y is k exactly if x is k / n, the whole number of y is that of n times x
 pub agree : (n top : ℕ) (x y : Float) → ((k : ℕ) → IsExactly y k 1 ↔ IsExactly x k n) → wholeOf 1 top y ≡ wholeOf n top x
 agree n top x y same = go (wholeOf n top x) refl
   where
@@ -59,11 +59,12 @@ agree n top x y same = go (wholeOf n top x) refl
     go (Is k) found = let (range, exact) = sound n top x k found in complete 1 top y k range (same k .1 exact)
     go Not found = none 1 top y (λ k range exact. let is = complete n top x k range (same k .0 exact) in false≢true cc)
 
--- what was decoded to a stop, or to an intensity, had that whole number
+-- an amount that was decoded to a stop had that whole number
 mixed-is : (w : Whole) (k : ℕ) → mixed w ≡ Set (S.Mix k) → w ≡ Is k
 mixed-is (Is j) k e = cc
 mixed-is Not k e = cc
 
+-- and so had a held value that was decoded to an intensity
 held-is : (w : Whole) (k : ℕ) → held w ≡ Set (S.Hold k) → w ≡ Is k
 held-is (Is j) k e = cc
 held-is Not k e = cc

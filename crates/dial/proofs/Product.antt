@@ -15,12 +15,13 @@ use Rattle.tables.proofs.Cases.{either}
 use Rattle.dial.specs.Dial.{IsExactly}
 use Rattle.dial.proofs.Machine.{same-value}
 
--- what is known of the digits and the exponent of a 32-bit float
+-- m × 2 ^ e has the digits and the range of a 32-bit float
 record Small (m : ℕ) (e : ℤ) : Type 0 where
   digits : m < 2 ^ 24
   fine : down e ≤ 2 ^ 149
   below : m * up e < 2 ^ 128 * down e
 
+-- as every one that fits has
 small : (s : Bool) (m : ℕ) (e : ℤ) → T (fits binary32 (fin s m e)) → Small m e
 unfolding fits
 small s zero e fit =
@@ -43,11 +44,12 @@ small s (suc m) e fit =
       below = ltb→lt (suc m * up e) (2 ^ 128 * down e) (and-r (odd && short && fine) below fit);
     }
 
--- 2 ^ e in units of the least 64-bit float, 2 ^ -1074
+-- counted in units of the least 64-bit float, 2 ^ -1074, the exponent e is this
 abbrev exponent : ℤ → ℕ
 exponent (pos k) = 1074 + k
 exponent (negsuc k) = 1074 - suc k
 
+-- so that 2 ^ e is a whole number of them
 in-units : (e : ℤ) → down e ≤ 2 ^ 149 → 2 ^ 1074 * up e ≡ 2 ^ exponent e * down e
 in-units (pos k) fine = sym (pow-add 2 1074 k) ∙ sym (mul-one (2 ^ (1074 + k)))
 in-units (negsuc k) fine =
@@ -59,6 +61,7 @@ in-units (negsuc k) fine =
 abbrev pub times256 : Float → Float
 times256 x = mul binary64 x (fin false 1 (pos 8))
 
+-- the second factor goes last
 rearranged : (a b c d : ℕ) → a * b * c * d ≡ a * c * d * b
 rearranged a b c d = ap (λ (x : ℕ). x * d) (mul-right-comm a b c) ∙ mul-right-comm (a * c) b d
 
@@ -70,10 +73,16 @@ product s m e h =
     let den = down e in
     let power = 2 ^ exponent e in
     let units : num * 2 ^ 1074 ≡ m * 256 * power * den =
-    rearranged m (up e) 256 (2 ^ 1074) ∙ mul-assoc (m * 256) (2 ^ 1074) (up e) ∙ ap (λ (x : ℕ). m * 256 * x) (in-units e (h .fine)) ∙ sym (mul-assoc (m * 256) power den) in
+    rearranged m (up e) 256 (2 ^ 1074)
+    ∙ mul-assoc (m * 256) (2 ^ 1074) (up e)
+    ∙ ap (λ (x : ℕ). m * 256 * x) (in-units e (h .fine))
+    ∙ sym (mul-assoc (m * 256) power den) in
     let most : num * 2 ^ 1074 ≤ 2 ^ 128 * 256 * 2 ^ 1074 * den =
-    le-trans (mul-le-mul-right (2 ^ 1074) (mul-le-mul-right 256 (le-of-lt (h .below)))) (le-of-eq (rearranged (2 ^ 128) den 256 (2 ^ 1074))) in
-    let range : m * 256 * power ≤ 2 ^ 128 * 256 * 2 ^ 1074 = le-of-mul-le-mul-right (le-trans (le-of-eq (sym units)) most) (down-pos e) in
+    le-trans
+    (mul-le-mul-right (2 ^ 1074) (mul-le-mul-right 256 (le-of-lt (h .below))))
+    (le-of-eq (rearranged (2 ^ 128) den 256 (2 ^ 1074))) in
+    let range : m * 256 * power ≤ 2 ^ 128 * 256 * 2 ^ 1074 =
+    le-of-mul-le-mul-right (le-trans (le-of-eq (sym units)) most) (down-pos e) in
     let digits : m * 256 < 2 ^ 53 = let few = h .digits in omega arith in
     subst (λ (t : Bool). HasValue (round binary64 t num (den * 1)) s num den) (sym (plus-sign s))
     (subst (λ (d : ℕ). HasValue (round binary64 s num d) s num den) (sym (mul-one den))
@@ -88,4 +97,5 @@ pub scaled : (x : Float) → T (fits binary32 x) → (k : ℕ) → IsExactly (ti
 unfolding mul
 scaled nan fit k = (λ exact. exact, λ exact. exact)
 scaled (inf s) fit k = (λ exact. exact, λ exact. exact)
-scaled (fin s m e) fit k = same-value (times256 (fin s m e)) s (m * up e * 256) (down e) k (down-pos e) (product s m e (small s m e fit))
+scaled (fin s m e) fit k =
+    same-value (times256 (fin s m e)) s (m * up e * 256) (down e) k (down-pos e) (product s m e (small s m e fit))

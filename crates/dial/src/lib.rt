@@ -39,7 +39,7 @@ fn whole_of(y: f64, top: u32) -> Whole
     Whole::Not
 }
 
-// The k from 0 to 256 with x = k / 256. In 64 bits the product is exact; in 32 bits it could overflow.
+// The k from 0 to 256 with x = k / 256. In 64 bits the product is exact, whatever x is.
 fn stop(x: f32) -> Whole
     ensures { λ r. ⌜ r ≡ wholeOf 256 256 x ⌝ }
 {

@@ -6,13 +6,16 @@ use Prim.Native.Nat.{ℕ, _+_, _/_}
 use native.Mathlib.Omega.{arith}
 use borrow.Author.Tests.{eq-eqb, ne-eqb, le-ltb}
 use lib.ListN.{length}
-use Rattle.pixel.specs.Methods.{isMethod}
+use Rattle.pixel.specs.Methods.{isMethod, methodOf}
 use Rattle.pixel.specs.Strip.{isWhole, Bytes}
+use Rattle.dial.specs.Dial.{fullBalance}
+use Rattle.dial.proofs.Exact.{full-balance}
 use Rattle.measuring.specs.Histogram.{pixelLimit}
 use Rattle.curve.specs.Curve.{curveOf, IsToneCurve}
 use Rattle.strip_curve.proofs.Laws.{strip-shape}
 use Rattle.curve_bytes.specs.CurveBytes.{curveLength, curveBytes, curveEntries, keepsCurveRule}
 use Rattle.curve_bytes.proofs.CurveBytes.{length-bytes, read-back, curve-complete}
+use Rattle.colouring.proofs.Strips.{amount-one-is-full-balance}
 use Rattle.shot.specs.Shot.{opened, measured, fixedWith, coloured}
 use Rattle.shot.proofs.OneStrip.{measure-accepted, fix-accepted, is-fixed, curve-is}
 use Rattle.shot.proofs.Passed.{measure-passed, fix-passed}
@@ -73,10 +76,18 @@ module _ (c : CurveCall) (bytes : Bytes (c .strip)) (e : Accepted c) where
         rw (eq-eqb (length (curveOutcome c .bytes)) curveLength written-size, ruled, known, whole, eq-eqb (length destination) (length source) same) refl
 
     colours : colourOutcome (colourBy c method source destination)
-        ≡ (let o = coloured (fixAnswer c .shot) (record { method = method; source = source; destination = destination }) in
+        ≡ (let o = coloured (fixAnswer c .shot) (record { method = method; dial = fullBalance; source = source; destination = destination }) in
         record { number = o .answer .number; bytes = o .bytes })
     unfolding colourOutcome coloured
-    colours = rw (eq-eqb (length (curveOutcome c .bytes)) curveLength written-size, ruled, entries-are, fixed) refl
+    colours =
+        rw (
+          eq-eqb (length (curveOutcome c .bytes)) curveLength written-size,
+          ruled,
+          entries-are,
+          fixed,
+          full-balance,
+          amount-one-is-full-balance (methodOf method) (fixAnswer c .shot .curve) source,
+        ) refl
 
 -- a measured shot has the strip's pixels
 pixels-are : (c : CurveCall) → measureAnswer c .number ≡ 0 → measureAnswer c .shot .pixels ≡ 0 + length (c .strip) / 3

@@ -6,6 +6,7 @@ use Prim.Native.Nat.{ℕ}
 use lib.ListN.{length}
 use Rattle.pixel.specs.Methods.{isMethod}
 use Rattle.pixel.specs.Strip.{isWhole, Bytes}
+use Rattle.dial.specs.Dial.{fullBalance}
 use Rattle.curve_bytes.specs.CurveBytes.{curveLength, curveBytes}
 use Rattle.shot.specs.Shot.{opened, measured, fixedWith, coloured}
 use Rattle.shot.specs.declared.Answer.{Answer}
@@ -40,8 +41,8 @@ pub record HostFollowsShot : Type 0 where
   pub curveAccepted : (c : CurveCall) → Bytes (c .strip) → Accepted c → (method : ℕ) (source destination : List ℕ)
       → isMethod method ≡ true → isWhole (length source) ≡ true → length destination ≡ length source
       → colourOutcome (colourBy c method source destination) .number ≡ 0
-  -- and then does what colouring from that shot does, whatever else it is lent
+  -- and then does what colouring from that shot does with the dial at the full balance, the mix at amount 1, whatever else it is lent
   pub colours : (c : CurveCall) → Bytes (c .strip) → Accepted c → (method : ℕ) (source destination : List ℕ)
       → colourOutcome (colourBy c method source destination)
-      ≡ (let o = coloured (fixAnswer c .shot) (record { method = method; source = source; destination = destination }) in
+      ≡ (let o = coloured (fixAnswer c .shot) (record { method = method; dial = fullBalance; source = source; destination = destination }) in
       record { number = o .answer .number; bytes = o .bytes })

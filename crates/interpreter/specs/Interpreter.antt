@@ -59,9 +59,10 @@ abbrev pub requestIn : List ℕ → Command → Request
 requestIn line (Open shot) = calling shot opening
 requestIn line (Measure shot strip) = calling shot (measuring (decoded (wordIn line strip)))
 requestIn line (Fix shot choice) = calling shot (fixing choice)
-requestIn line (Colour shot method source destination) =
+requestIn line (Colour shot method dial source destination) =
     calling shot
-    (colouring (record { method = method; source = decoded (wordIn line source); destination = decoded (wordIn line destination) }))
+    (colouring
+    (record { method = method; dial = dial; source = decoded (wordIn line source); destination = decoded (wordIn line destination) }))
 requestIn line (Move method pixel target) = moving method (pixelFrom (decoded (wordIn line pixel)) 0) target
 
 -- The text of a call's answer: its number, and of a colouring also the bytes that it leaves.

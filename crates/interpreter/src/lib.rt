@@ -9,6 +9,7 @@ ghost use Rattle.script.specs.Script.{lineLimit, HasCall};
 ghost use Rattle.answers.specs.Answers.{byteLimit, textLimit, numberText, WritesAnswer};
 ghost use Rattle.book.specs.Book.{Call.opening, Call.measuring, Call.fixing, Call.colouring};
 ghost use Rattle.interpreter.specs.Interpreter.{newShots, shotOf, withShot, AllReachable, movedText, kept, onShot, answerTo, LeavesReply};
+use dial::Dial;
 use script::Command;
 use shot::Answer;
 use shot::Shot;
@@ -145,6 +146,7 @@ fn colour_bytes(
     shots: Shots,
     number: u32,
     method: u32,
+    dial: Dial,
     source: &[u8],
     destination: &mut [u8],
     output: &mut [u8],
@@ -152,9 +154,9 @@ fn colour_bytes(
     requires { ⌜ AllReachable shots ⌝ }
     requires { ⌜ length (now destination) ≤ byteLimit ⌝ }
     requires { ⌜ textLimit ≤ length (now output) ⌝ }
-    ensures { λ r. ⌜ LeavesReply (onShot shots number (colouring (record { method = method; source = now (source .entry); destination = now (destination .entry) }))) (now (output .entry)) r (now (output .exit)) ⌝ }
+    ensures { λ r. ⌜ LeavesReply (onShot shots number (colouring (record { method = method; dial = dial; source = now (source .entry); destination = now (destination .entry) }))) (now (output .entry)) r (now (output .exit)) ⌝ }
 {
-    let answer = book::colour(shot_of(shots, number), method, source, destination);
+    let answer = book::colour(shot_of(shots, number), method, dial, source, destination);
     let shot = answer.shot;
     let size = answers::write_bytes(answer.number, destination, output);
     Answered {
@@ -168,6 +170,7 @@ fn colour_shot(
     shots: Shots,
     number: u32,
     method: u32,
+    dial: Dial,
     source: &[u8],
     destination: &[u8],
     output: &mut [u8],
@@ -176,7 +179,7 @@ fn colour_shot(
     requires { ⌜ length (now source) ≤ lineLimit ⌝ }
     requires { ⌜ length (now destination) ≤ lineLimit ⌝ }
     requires { ⌜ textLimit ≤ length (now output) ⌝ }
-    ensures { λ r. ⌜ LeavesReply (onShot shots number (colouring (record { method = method; source = decoded (now (source .entry)); destination = decoded (now (destination .entry)) }))) (now (output .entry)) r (now (output .exit)) ⌝ }
+    ensures { λ r. ⌜ LeavesReply (onShot shots number (colouring (record { method = method; dial = dial; source = decoded (now (source .entry)); destination = decoded (now (destination .entry)) }))) (now (output .entry)) r (now (output .exit)) ⌝ }
 {
     let mut from = [0u8; answers::BYTE_LIMIT];
     let read = hexadecimal::decode(source, &mut from);
@@ -186,6 +189,7 @@ fn colour_shot(
         shots,
         number,
         method,
+        dial,
         &from[..read],
         &mut to[..written],
         output,
@@ -221,7 +225,7 @@ pub fn answer(shots: Shots, command: Command, line: &[u8], output: &mut [u8]) ->
             measure_shot(shots, number, &line[start..end], output)
         }
         Command::Fix(number, choice) => fix_shot(shots, number, choice, output),
-        Command::Colour(number, method, source, destination) => {
+        Command::Colour(number, method, dial, source, destination) => {
             let start = source.start;
             let end = source.end;
             let first = destination.start;
@@ -230,6 +234,7 @@ pub fn answer(shots: Shots, command: Command, line: &[u8], output: &mut [u8]) ->
                 shots,
                 number,
                 method,
+                dial,
                 &line[start..end],
                 &line[first..last],
                 output,

@@ -15,6 +15,7 @@ use Rattle.scanning.specs.Scanning.{inClass, runLength, sameBytes}
 use Rattle.scanning.specs.declared.Class.the-variants.{Uncommented}
 use Rattle.text.specs.Text.{ascii}
 use Rattle.words.specs.Words.{Within, wordAt, wordIn, isMissing, firstBad, goodIf, verdictOf, isPixel, isShot, numberAt, shotAt, digitsAt, endAt, HasDigits}
+use Rattle.dial_words.specs.DialWords.{dialAt}
 use Rattle.script.specs.Script.{lineLimit, once, openAt, measureAt, fixAt, colourAt, moveAt, nameOf, namedAt, callAt, withTimes, repeatedBy, textLine, lineOf, IsCall, CallsAreDue}
 use Rattle.words.specs.declared.Word.{Word}
 use Rattle.script.specs.declared.Command.{Command}
@@ -106,18 +107,21 @@ module _ (line : List ℕ) (place times : ℕ) (command : Command) where
   colour-due e =
       let shot = shotAt line place in
       let method = numberAt line (shot .end) in
-      let source = digitsAt Strip line (method .end) in
+      let strength = dialAt line (method .end) in
+      let source = digitsAt Strip line (strength .end) in
       let destination = digitsAt Strip line (source .word .end) in
       let last = endAt line (destination .word .end) in
-      let third = firstBad (source .verdict) (firstBad (destination .verdict) last) in
+      let fourth = firstBad (source .verdict) (firstBad (destination .verdict) last) in
+      let third = firstBad (strength .verdict) fourth in
       let second = firstBad (method .verdict) third in
-      let read = Colour (shot .value) (method .value) (source .word) (destination .word) in
+      let read = Colour (shot .value) (method .value) (strength .dial) (source .word) (destination .word) in
       let (good, same) = once-good (firstBad (shot .verdict) second) read command times e in
       let (shotGood, rest) = both-good (shot .verdict) second good in
-      let (sourceGood, rest₂) = both-good (source .verdict) (firstBad (destination .verdict) last) (both-good (method .verdict) third rest .1) in
-      let destinationGood = both-good (destination .verdict) last rest₂ .0 in
+      let rest₂ = both-good (strength .verdict) fourth (both-good (method .verdict) third rest .1) .1 in
+      let (sourceGood, rest₃) = both-good (source .verdict) (firstBad (destination .verdict) last) rest₂ in
+      let destinationGood = both-good (destination .verdict) last rest₃ .0 in
       subst (IsCall line) same
-      (shot-good line place shotGood, digits-good line (method .end) Strip sourceGood, digits-good line (source .word .end) Strip destinationGood)
+      (shot-good line place shotGood, digits-good line (strength .end) Strip sourceGood, digits-good line (source .word .end) Strip destinationGood)
 
   move-due : moveAt line place ≡ Calls times command → IsCall line command
   unfolding moveAt
@@ -195,7 +199,7 @@ module _ (front rest : List ℕ) where
   call-kept (Open shot) is = is
   call-kept (Measure shot strip) (is, has) = (is, digits-kept Strip strip has)
   call-kept (Fix shot choice) is = is
-  call-kept (Colour shot method source destination) (is, from, to) = (is, digits-kept Strip source from, digits-kept Strip destination to)
+  call-kept (Colour shot method dial source destination) (is, from, to) = (is, digits-kept Strip source from, digits-kept Strip destination to)
   call-kept (Move method pixel target) has = digits-kept Pixel pixel has
 
 -- a line that is read as a call is not too long

@@ -15,6 +15,7 @@ use Rattle.words.specs.declared.Fault.the-variants.{TooLong, NoSuchCall, TooFew
 use Rattle.words.specs.declared.Number.{Number}
 use Rattle.words.specs.declared.Verdict.{Verdict}
 use Rattle.words.specs.declared.Verdict.the-variants.{Good, Bad}
+use Rattle.dial_words.specs.DialWords.{dialAt}
 use Rattle.script.specs.declared.Command.{Command}
 use Rattle.script.specs.declared.Command.the-variants.{Open, Measure, Fix, Colour, Move}
 use Rattle.script.specs.declared.Name.{Name}
@@ -49,18 +50,20 @@ fixAt line place =
     let choice = numberAt line (shot .end) in
     once (firstBad (shot .verdict) (firstBad (choice .verdict) (endAt line (choice .end)))) (Fix (shot .value) (choice .value))
 
--- colour SHOT METHOD SOURCE DESTINATION
+-- colour SHOT METHOD DIAL SOURCE DESTINATION
 unfoldable pub colourAt : List ℕ → ℕ → ScriptLine
 colourAt line place =
     let shot = shotAt line place in
     let method = numberAt line (shot .end) in
-    let source = digitsAt Strip line (method .end) in
+    let strength = dialAt line (method .end) in
+    let source = digitsAt Strip line (strength .end) in
     let destination = digitsAt Strip line (source .word .end) in
     once
     (firstBad (shot .verdict)
     (firstBad (method .verdict)
-    (firstBad (source .verdict) (firstBad (destination .verdict) (endAt line (destination .word .end))))))
-    (Colour (shot .value) (method .value) (source .word) (destination .word))
+    (firstBad (strength .verdict)
+    (firstBad (source .verdict) (firstBad (destination .verdict) (endAt line (destination .word .end)))))))
+    (Colour (shot .value) (method .value) (strength .dial) (source .word) (destination .word))
 
 -- move METHOD PIXEL TARGET
 unfoldable pub moveAt : List ℕ → ℕ → ScriptLine
@@ -140,7 +143,7 @@ abbrev pub IsCall : List ℕ → Command → Type 0
 IsCall line (Open shot) = isShot shot ≡ true
 IsCall line (Measure shot strip) = (isShot shot ≡ true) × HasDigits Strip line strip
 IsCall line (Fix shot choice) = isShot shot ≡ true
-IsCall line (Colour shot method source destination) =
+IsCall line (Colour shot method dial source destination) =
     (isShot shot ≡ true) × HasDigits Strip line source × HasDigits Strip line destination
 IsCall line (Move method pixel target) = HasDigits Pixel line pixel
 

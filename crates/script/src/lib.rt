@@ -2,6 +2,7 @@
 // a script in words.
 ghost use mathlib.Core.Path.{_≡_};
 ghost use Rattle.script.specs.Script.{once, openAt, measureAt, fixAt, colourAt, moveAt, nameOf, namedAt, callAt, withTimes, repeated, textLine, lineOf};
+use dial::Dial;
 use scanning::Class;
 use words::Due;
 use words::Fault;
@@ -20,8 +21,8 @@ pub enum Command {
     Measure(u32, Word),
     // The shot and the choice.
     Fix(u32, u32),
-    // The shot, the method, the source and the destination.
-    Colour(u32, u32, Word, Word),
+    // The shot, the method, the dial, the source and the destination.
+    Colour(u32, u32, Dial, Word, Word),
     // The method, the pixel and the target.
     Move(u32, Word, u32),
 }
@@ -96,30 +97,36 @@ fn read_fix(line: &[u8], place: usize) -> ScriptLine
     )
 }
 
-// colour SHOT METHOD SOURCE DESTINATION
+// colour SHOT METHOD DIAL SOURCE DESTINATION
 fn read_colour(line: &[u8], place: usize) -> ScriptLine
     ensures { λ r. ⌜ r ≡ colourAt (now (line .entry)) place ⌝ }
 {
     let shot = words::read_shot(line, place);
     let method = words::read_number(line, shot.end);
-    let source = words::read_digits(Due::Strip, line, method.end);
+    let strength = dial_words::read_dial(line, method.end);
+    let dial = strength.dial;
+    let source = words::read_digits(Due::Strip, line, strength.end);
     let from = source.word;
     let destination = words::read_digits(Due::Strip, line, from.end);
     let to = destination.word;
     let left = words::read_end(line, to.end);
     let first = shot.verdict;
     let second = method.verdict;
-    let third = source.verdict;
-    let fourth = destination.verdict;
+    let third = strength.verdict;
+    let fourth = source.verdict;
+    let fifth = destination.verdict;
     once(
         words::first_bad(
             first,
             words::first_bad(
                 second,
-                words::first_bad(third, words::first_bad(fourth, left)),
+                words::first_bad(
+                    third,
+                    words::first_bad(fourth, words::first_bad(fifth, left)),
+                ),
             ),
         ),
-        Command::Colour(shot.value, method.value, from, to),
+        Command::Colour(shot.value, method.value, dial, from, to),
     )
 }
 

@@ -11,8 +11,14 @@ use Rattle.pixel.specs.Methods.{methodOf}
 use Rattle.pixel.specs.Strip.{Bytes}
 use Rattle.curve.specs.Curve.{IsToneCurve}
 use Rattle.strip_curve.proofs.Laws.{StripAccepted, strip-shape}
+use Rattle.settings.specs.Setting.{full}
+use Rattle.dial.specs.Dial.{refusalOf, settingOf, fullBalance}
+use Rattle.dial.specs.declared.Decoded.{Decoded}
+use Rattle.dial.proofs.Exact.{full-balance}
+use Rattle.colouring.specs.Colouring.{colouredUnder}
 use Rattle.colouring.specs.Written.{Written, pixelsWritten, colouredPixels}
-use Rattle.colouring.proofs.Written.{coloured-pixels-are-rounded}
+use Rattle.colouring.proofs.Strips.{amount-one-is-full-balance}
+use Rattle.colouring.proofs.Written.{coloured-pixels-are-balanced}
 use Rattle.book.specs.Book.{Call, Call.measuring, Call.fixing, Call.colouring}
 use Rattle.book.specs.Run.{trace, number, WellFormed}
 use Rattle.shot.specs.Shot.{opened, measured, fixedWith, ColourRequest, Outcome, coloured}
@@ -30,7 +36,7 @@ use Rattle.still.proofs.Answers.{accepted-fits, accepted-shot, accepted
 pub record FileColouring (file : List ℕ) : Type 0 where
   pub tone : IsToneCurve (ownCurve (fileSamples file))
   pub bytes : Bytes (fileSamples file)
-  pub member : (w : Written) → w among pixelsOfFile file → w among colouredPixels (methodOf fileMethod) (ownCurve (fileSamples file)) (fileSamples file)
+  pub member : (w : Written) → w among pixelsOfFile file → w among colouredPixels full (methodOf fileMethod) (ownCurve (fileSamples file)) (fileSamples file)
 
 module _ (file : List ℕ) (accepted : IsAccepted file) where
   abbrev samples : List ℕ
@@ -48,7 +54,7 @@ module _ (file : List ℕ) (accepted : IsAccepted file) where
     sample-bytes = samples-are-bytes bytes
 
     abbrev request : ColourRequest
-    request = record { method = fileMethod; source = samples; destination = destination }
+    request = record { method = fileMethod; dial = fullBalance; source = samples; destination = destination }
 
     -- what its colouring leaves
     colouring-is : coloured (fixedWith (measured opened samples .shot) fileChoice .shot) request
@@ -57,7 +63,11 @@ module _ (file : List ℕ) (accepted : IsAccepted file) where
           bytes = balanced samples;
         }
     unfolding balanced
-    colouring-is = colour-accepted samples sample-bytes fileChoice refl shot request refl (shot .whole) same
+    colouring-is =
+        colour-accepted samples sample-bytes fileChoice refl shot request refl (shot .whole) same (ap refusalOf full-balance)
+        ∙ ap (λ (l : List ℕ). record { answer = record { shot = fixedWith (measured opened samples .shot) fileChoice .shot; number = 0 }; bytes = l })
+        (ap (λ (d : Decoded). colouredUnder (settingOf d) (methodOf fileMethod) (ownCurve samples) samples) full-balance
+        ∙ amount-one-is-full-balance (methodOf fileMethod) (ownCurve samples) samples)
 
     calls-accepted : map number (trace (callsOf samples destination)) ≡ 0 ∷ 0 ∷ 0 ∷ []
     calls-accepted =
@@ -124,13 +134,16 @@ module _ (file : List ℕ) (accepted : IsAccepted file) where
       record {
         tone = strip-shape samples shot inside fileChoice;
         bytes = inside;
-        member = λ w m. subst (λ (written : List ℕ). w among pixelsWritten (methodOf fileMethod) (ownCurve (fileSamples file)) samples written) answer-samples m;
+        member = λ w m.
+            subst (λ (written : List ℕ). w among pixelsWritten full (methodOf fileMethod) (ownCurve (fileSamples file)) samples written)
+            (answer-samples ∙ sym (amount-one-is-full-balance (methodOf fileMethod) (ownCurve (fileSamples file)) samples))
+            m;
       }
 
 pub files-round-the-paper : FilesRoundThePaper
 files-round-the-paper file bytes accepted w m =
     let made = file-colouring file accepted bytes in
-    coloured-pixels-are-rounded (methodOf fileMethod) (ownCurve (fileSamples file)) (fileSamples file) (made .tone) (made .bytes) w (made .member w m)
+    coloured-pixels-are-balanced (methodOf fileMethod) (ownCurve (fileSamples file)) (fileSamples file) (made .tone) (made .bytes) w (made .member w m) .rounded
 
 pub files-follow-shots : FilesFollowShots
 files-follow-shots file bytes accepted destination same = follows-shot file accepted bytes destination same

@@ -1,5 +1,5 @@
 -- Colouring the samples of a picture.
-use mathlib.Core.Path.{_≡_}
+use mathlib.Core.Path.{_≡_, ap, sym, _∙_}
 use mathlib.Core.Bool.{true}
 use mathlib.Core.List.{List}
 use Prim.Native.Nat.{ℕ, _*_, _%_, _≤_, _<_}
@@ -9,6 +9,8 @@ use lib.ListN.{length}
 use Rattle.pixel.specs.Methods.{methodOf}
 use Rattle.pixel.specs.Strip.{isWhole}
 use Rattle.strip_curve.proofs.Laws.{StripAccepted}
+use Rattle.settings.specs.Setting.{full}
+use Rattle.colouring.proofs.Strips.{amount-one-is-full-balance}
 use Rattle.colouring.proofs.Written.{coloured-length}
 use Rattle.netpbm.specs.Header.{areaLimit}
 use Rattle.still.specs.Still.{fileMethod, ownCurve, balanced}
@@ -25,4 +27,6 @@ whole-shot area samples exact some most =
 -- coloured samples are as many
 pub balanced-length : (samples : List ℕ) → isWhole (length samples) ≡ true → length (balanced samples) ≡ length samples
 unfolding balanced
-balanced-length samples whole = coloured-length (methodOf fileMethod) (ownCurve samples) samples whole
+balanced-length samples whole =
+    ap length (sym (amount-one-is-full-balance (methodOf fileMethod) (ownCurve samples) samples))
+    ∙ coloured-length full (methodOf fileMethod) (ownCurve samples) samples whole

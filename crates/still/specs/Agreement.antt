@@ -7,7 +7,9 @@ use lib.ListN.{length}
 use Rattle.tables.specs.Table.{_among_}
 use Rattle.pixel.specs.Methods.{methodOf}
 use Rattle.pixel.specs.Strip.{Bytes}
-use Rattle.colouring.specs.Written.{Written, WrittenRounded, pixelsWritten}
+use Rattle.settings.specs.Setting.{full}
+use Rattle.dial.specs.Dial.{fullBalance}
+use Rattle.colouring.specs.Written.{Written, BalanceRounded, pixelsWritten}
 use Rattle.book.specs.Accuracy.{Accurate}
 use Rattle.book.specs.Book.{Call, Call.measuring, Call.fixing, Call.colouring}
 use Rattle.book.specs.Run.{Step, trace, number}
@@ -15,12 +17,12 @@ use Rattle.netpbm.specs.Header.{headerText}
 use Rattle.still.specs.Still.{fileChoice, fileMethod, ownCurve, fileHeader, fileSamples, answer, IsAccepted}
 
 -- The calls that a picture takes, into a destination that may hold anything: a new shot is measured by its samples, fixed, and used to
--- colour them.
+-- colour them with the dial at the full balance.
 abbrev pub callsOf : List ℕ → List ℕ → List Call
 callsOf samples destination =
     measuring samples
     ∷ fixing fileChoice
-    ∷ colouring (record { method = fileMethod; source = samples; destination = destination })
+    ∷ colouring (record { method = fileMethod; dial = fullBalance; source = samples; destination = destination })
     ∷ []
 
 -- What the calls of a list leave in the destinations, one after the other.
@@ -47,13 +49,13 @@ FilesFollowShots =
 -- The pixels written for a file: those of its samples, by its own curve and method 2, read off the samples of the answer.
 abbrev pub pixelsOfFile : List ℕ → List Written
 pixelsOfFile file =
-    pixelsWritten (methodOf fileMethod) (ownCurve (fileSamples file)) (fileSamples file) (fileSamples (answer file))
+    pixelsWritten full (methodOf fileMethod) (ownCurve (fileSamples file)) (fileSamples file) (fileSamples (answer file))
 
 -- Claim: demand 2 for every pixel written for an accepted file: each sample is the exact value of the paper's formula, rounded once. Proved:
 -- proofs/Agreement.antt, `files-round-the-paper`.
 abbrev pub FilesRoundThePaper : Type 0
 FilesRoundThePaper =
-    (file : List ℕ) → Bytes file → IsAccepted file → (w : Written) → w among pixelsOfFile file → WrittenRounded w
+    (file : List ℕ) → Bytes file → IsAccepted file → (w : Written) → w among pixelsOfFile file → BalanceRounded w
 
 -- Claim: what is written for an accepted file is an accepted file of the same size. Proved: proofs/Agreement.antt, `answers-are-files`.
 pub record AnswersAreFiles : Type 0 where

@@ -36,6 +36,10 @@ pub enum Fault {
     NotPairs,
     // A word that has to be a pixel is not six hexadecimal digits.
     NotAPixel,
+    // A word that has to name a command of the dial names none.
+    NoSuchDial,
+    // A word that has to be a float is neither eight hexadecimal digits nor nan.
+    NotAFloat,
 }
 
 // Whether a word is what is due at its place.

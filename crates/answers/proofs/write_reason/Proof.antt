@@ -75,6 +75,24 @@ slice-aggregate-write-text-8 c = search needs
 write-text-requires-8 : tie.Need-write-text-requires-8
 write-text-requires-8 c κs = rw (c .before .before .enum-told8 .given .1) at (c .before .before .before .before .before .pre)
 
+enum-told-9 : tie.Need-enum-told-9
+enum-told-9 c = search needs
+
+slice-aggregate-write-text-9 : tie.Need-slice-aggregate-write-text-9
+slice-aggregate-write-text-9 c = search needs
+
+write-text-requires-9 : tie.Need-write-text-requires-9
+write-text-requires-9 c κs = rw (c .before .before .enum-told9 .given .1) at (c .before .before .before .before .before .pre)
+
+enum-told-10 : tie.Need-enum-told-10
+enum-told-10 c = search needs
+
+slice-aggregate-write-text-10 : tie.Need-slice-aggregate-write-text-10
+slice-aggregate-write-text-10 c = search needs
+
+write-text-requires-10 : tie.Need-write-text-requires-10
+write-text-requires-10 c κs = rw (c .before .before .enum-told10 .given .1) at (c .before .before .before .before .before .pre)
+
 same-length : tie.Need-same-length
 same-length c = search needs
 
@@ -123,6 +141,18 @@ same-length-8 c = search needs
 returns-8 : tie.Need-returns-8
 returns-8 c = rw (c .before .before .before .before .before .enum-told8 .given .1) (c .before .before .write-text8 .ensures)
 
+same-length-9 : tie.Need-same-length-9
+same-length-9 c = search needs
+
+returns-9 : tie.Need-returns-9
+returns-9 c = rw (c .before .before .before .before .before .enum-told9 .given .1) (c .before .before .write-text9 .ensures)
+
+same-length-10 : tie.Need-same-length-10
+same-length-10 c = search needs
+
+returns-10 : tie.Need-returns-10
+returns-10 c = rw (c .before .before .before .before .before .enum-told10 .given .1) (c .before .before .write-text10 .ensures)
+
 pub write-reason-spec : {M : Type 1} → statement M
 write-reason-spec =
     tie.close
@@ -151,6 +181,12 @@ write-reason-spec =
     enum-told-8
     slice-aggregate-write-text-8
     write-text-requires-8
+    enum-told-9
+    slice-aggregate-write-text-9
+    write-text-requires-9
+    enum-told-10
+    slice-aggregate-write-text-10
+    write-text-requires-10
     same-length
     returns
     same-length-2
@@ -166,4 +202,8 @@ write-reason-spec =
     same-length-7
     returns-7
     same-length-8
-    returns-8)
+    returns-8
+    same-length-9
+    returns-9
+    same-length-10
+    returns-10)

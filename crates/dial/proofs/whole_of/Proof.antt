@@ -1,5 +1,5 @@
 -- `dial::whole_of` meets its contract: a whole number in the range passes all tests and is cut to itself, and what passes them is one.
-use mathlib.Core.Path.{ap, sym, _∙_, subst}
+use mathlib.Core.Path.{ap, sym, _∙_}
 use mathlib.Core.Bool.{false, false≢true}
 use Prim.Native.Nat.{ℕ, _≤_, _<_, _^_}
 use native.Mathlib.Nat.{le-trans, le-of-lt, lt-of-le-of-lt, lt-of-lt-of-le}
@@ -23,20 +23,33 @@ float-of k fits = round-whole binary64 false k (le-trans (le-of-lt fits) (lit≤
 int-to-float-if2 : tie.Need-int-to-float-if2
 int-to-float-if2 c = search needs
 
--- both tests of the range passed
+-- what fails a test of the range is no whole number in it
+returns-4 : tie.Need-returns-4
+unfolding ofBits
+returns-4 c =
+    let args = c .before .args in
+    sym (none 1 (args .top) (args .y) (λ k range exact. false≢true (sym (c .if1 .left) ∙ known (args .y) k exact .above)))
+
+returns-3 : tie.Need-returns-3
+returns-3 c =
+    let start = c .before .before .before in
+    let args = start .args in
+    let top = float-of (args .top) (start .fits .top .fits) in
+    sym (none 1 (args .top) (args .y) (λ k range exact. false≢true (sym (c .if2 .left) ∙ known (args .y) k exact .below _ _ top range)))
+
+-- what passes both can be cut
 in-range : (c : tie.Then2) → Within (c .before .before .before .args .y) (c .before .before .before .args .top)
 unfolding ofBits
 in-range c =
-    let start = c .before .before .before in
-    let small : start .args .top < 2 ^ 32 = start .fits .top .fits in
-    within (start .args .y) (ofInt binary64 (pos (start .args .top))) (start .args .top) (float-of (start .args .top) small) (lt-of-lt-of-le small (lit≤ tt)) (c .before .before .if1 .taken) (c .if2 .taken)
+    let fits = c .before .before .before .fits .top .fits in
+    within _ _ _ (float-of _ fits) (lt-of-lt-of-le fits (lit≤ tt)) (c .before .before .if1 .taken) (c .if2 .taken)
 
 truncating-f64-to-u64-requires : tie.Need-truncating-f64-to-u64-requires
 truncating-f64-to-u64-requires c κs = (in-range c .above-minus-one, in-range c .below-the-end)
 
--- so the cut is at most top, and a number of 32 bits
+-- the cut is at most top, and so a number of 32 bits
 at-most-top : (c : tie.After-truncating-f64-to-u64) → c .truncating-f64-to-u64 .result ≤ c .before .before .before .before .args .top
-at-most-top c = subst (λ (k : ℕ). k ≤ c .before .before .before .before .args .top) (sym (c .truncating-f64-to-u64 .ensures)) (in-range (c .before) .few)
+at-most-top c = rw (c .truncating-f64-to-u64 .ensures) (in-range (c .before) .few)
 
 small : (c : tie.After-truncating-f64-to-u64) → c .truncating-f64-to-u64 .result < 2 ^ 32
 small c = lt-of-le-of-lt (at-most-top c) (c .before .before .before .before .fits .top .fits)
@@ -48,13 +61,13 @@ int-to-float-if3 c = le→leb (c .before .truncating-f64-to-u64 .result) (2 ^ 53
 cast-t9 : tie.Need-cast-t9
 cast-t9 c = record { fits = small (c .before .before) }
 
+-- what equals its cut is that whole number
 returns : tie.Need-returns
 returns c =
     let called = c .before .before in
-    let start = called .before .before .before .before in
-    let k = called .truncating-f64-to-u64 .result in
-    sym (complete 1 (start .args .top) (start .args .y) k (at-most-top called) (equal (start .args .y) (ofInt binary64 (pos k)) k (float-of k (small called)) (c .if3 .taken)))
+    sym (complete 1 _ _ _ (at-most-top called) (equal _ _ _ (float-of _ (small called)) (c .if3 .taken)))
 
+-- and a whole number equals its cut
 returns-2 : tie.Need-returns-2
 returns-2 c = sym (none 1 (start .args .top) y never)
   where
@@ -71,20 +84,8 @@ returns-2 c = sym (none 1 (start .args .top) y never)
     never k range exact =
         let fits : k < 2 ^ 32 = lt-of-le-of-lt range (start .fits .top .fits) in
         let cut = called .truncating-f64-to-u64 .ensures ∙ known y k exact .cut (lt-of-lt-of-le fits (lit≤ tt)) in
-        false≢true (sym (c .if3 .left) ∙ ap (λ (j : ℕ). eq (ofInt binary64 (pos j)) y) cut ∙ known y k exact .back (ofInt binary64 (pos k)) (float-of k fits))
-
-returns-3 : tie.Need-returns-3
-unfolding ofBits
-returns-3 c =
-    let start = c .before .before .before in
-    let top = start .args .top in
-    sym (none 1 top (start .args .y) (λ k range exact. false≢true (sym (c .if2 .left) ∙ known (start .args .y) k exact .below (ofInt binary64 (pos top)) top (float-of top (start .fits .top .fits)) range)))
-
-returns-4 : tie.Need-returns-4
-unfolding ofBits
-returns-4 c =
-    let start = c .before in
-    sym (none 1 (start .args .top) (start .args .y) (λ k range exact. false≢true (sym (c .if1 .left) ∙ known (start .args .y) k exact .above)))
+        let equals = ap (λ (j : ℕ). eq (ofInt binary64 (pos j)) y) cut ∙ known y k exact .back _ (float-of k fits) in
+        false≢true (sym (c .if3 .left) ∙ equals)
 
 pub whole-of-spec : {M : Type 1} → statement M
 whole-of-spec =

@@ -11,6 +11,9 @@ read-shot-requires c κs = search needs
 read-number-requires : tie.Need-read-number-requires
 read-number-requires c κs = search needs
 
+read-dial-requires : tie.Need-read-dial-requires
+read-dial-requires c κs = search needs
+
 read-digits-requires : tie.Need-read-digits-requires
 read-digits-requires c κs = search needs
 
@@ -32,6 +35,9 @@ first-bad-requires-3 c κs = search needs
 first-bad-requires-4 : tie.Need-first-bad-requires-4
 first-bad-requires-4 c κs = search needs
 
+first-bad-requires-5 : tie.Need-first-bad-requires-5
+first-bad-requires-5 c κs = search needs
+
 once-requires : tie.Need-once-requires
 once-requires c κs = search needs
 
@@ -40,15 +46,17 @@ unfolding colourAt
 returns c =
     rw (
       c .once .ensures,
-      c .before .first-bad4 .ensures,
-      c .before .before .first-bad3 .ensures,
-      c .before .before .before .first-bad2 .ensures,
-      c .before .before .before .before .first-bad .ensures,
-      c .before .before .before .before .before .read-end .ensures,
-      c .before .before .before .before .before .before .before .read-digits2 .ensures,
-      c .before .before .before .before .before .before .before .before .before .read-digits .ensures,
-      c .before .before .before .before .before .before .before .before .before .before .read-number .ensures,
-      c .before .before .before .before .before .before .before .before .before .before .before .read-shot .ensures,
+      c .before .first-bad5 .ensures,
+      c .before .before .first-bad4 .ensures,
+      c .before .before .before .first-bad3 .ensures,
+      c .before .before .before .before .first-bad2 .ensures,
+      c .before .before .before .before .before .first-bad .ensures,
+      c .before .before .before .before .before .before .read-end .ensures,
+      c .before .before .before .before .before .before .before .before .read-digits2 .ensures,
+      c .before .before .before .before .before .before .before .before .before .before .read-digits .ensures,
+      c .before .before .before .before .before .before .before .before .before .before .before .read-dial .ensures,
+      c .before .before .before .before .before .before .before .before .before .before .before .before .read-number .ensures,
+      c .before .before .before .before .before .before .before .before .before .before .before .before .before .read-shot .ensures,
     )
     refl
 
@@ -58,6 +66,7 @@ read-colour-spec =
     (tie.spec
     read-shot-requires
     read-number-requires
+    read-dial-requires
     read-digits-requires
     read-digits-requires-2
     read-end-requires
@@ -65,5 +74,6 @@ read-colour-spec =
     first-bad-requires-2
     first-bad-requires-3
     first-bad-requires-4
+    first-bad-requires-5
     once-requires
     returns)

@@ -59,7 +59,7 @@ names-shot : (line : List ℕ) (command : Command) → IsCall line command → N
 names-shot line (Open shot) is = is
 names-shot line (Measure shot strip) (is, has) = is
 names-shot line (Fix shot choice) is = is
-names-shot line (Colour shot method source destination) (is, from, to) = is
+names-shot line (Colour shot method dial source destination) (is, from, to) = is
 names-shot line (Move method pixel target) has = tt
 
 -- A list of calls, with what is told of its steps.

@@ -52,7 +52,7 @@ pub brings-bytes : (line : List ℕ) (command : Command) → BringsBytes (reques
 brings-bytes line (Open shot) = tt
 brings-bytes line (Measure shot strip) = decoded-small (wordIn line strip)
 brings-bytes line (Fix shot choice) = tt
-brings-bytes line (Colour shot method source destination) = decoded-small (wordIn line source)
+brings-bytes line (Colour shot method dial source destination) = decoded-small (wordIn line source)
 brings-bytes line (Move method pixel target) = tt
 
 reply-reachable : (shots : Shots) (request : Request) → BringsBytes request → AllReachable shots → AllReachable (replyTo shots request .shots)

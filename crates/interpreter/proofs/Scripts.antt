@@ -7,6 +7,7 @@ use Rattle.text.specs.Decimal.{valueAfter, decimalWithin, decimal}
 use Rattle.scanning.specs.Scanning.{runLength, sameBytes}
 use Rattle.hexadecimal.specs.Hexadecimal.{digitValue, decoded, encoded}
 use Rattle.words.specs.Words.{wordAt, numberOf, numberAt, shotAt, digitsAt, endAt}
+use Rattle.dial_words.specs.DialWords.{floatOf, floatAt, commandOf, dialAt}
 use Rattle.script.specs.Script.{openAt, measureAt, fixAt, colourAt, moveAt, nameOf, callAt, textLine, lineOf}
 use Rattle.script.specs.declared.Command.{Command}
 use Rattle.answers.specs.Answers.{faultText}
@@ -17,7 +18,7 @@ use Rattle.interpreter.specs.Scripts.{linesAfter, repliesTo, answersFrom
 use Rattle.interpreter.specs.declared.Shots.{Shots}
 
 pub examples-hold : ExamplesHold
-unfolding examples linesAfter repliesTo answersFrom valueAfter decimalWithin decimal runLength sameBytes digitValue decoded encoded wordAt numberOf numberAt shotAt digitsAt endAt openAt measureAt fixAt colourAt moveAt nameOf callAt textLine lineOf faultText movedOne opened measured fixedWith coloured
+unfolding examples linesAfter repliesTo answersFrom valueAfter decimalWithin decimal runLength sameBytes digitValue decoded encoded wordAt numberOf numberAt shotAt digitsAt endAt floatOf floatAt commandOf dialAt openAt measureAt fixAt colourAt moveAt nameOf callAt textLine lineOf faultText movedOne opened measured fixedWith coloured
 examples-hold = refl
 
 module _ (line : List ℕ) (command : Command) (shots : Shots) where

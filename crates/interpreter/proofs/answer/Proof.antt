@@ -55,7 +55,7 @@ enum-known-command-4 : tie.Need-enum-known-command-4
 enum-known-command-4 c = search needs
 
 called4 : (c : tie.After-known-told4) → let given = c .before .command4 .given .0 in
-    IsCall (c .before .before .before .before .before .args .line .now) (Colour (given .0) (given .1 .0) (given .1 .1 .0) (given .1 .1 .1 .0))
+    IsCall (c .before .before .before .before .before .args .line .now) (Colour (given .0) (given .1 .0) (given .1 .1 .0) (given .1 .1 .1 .0) (given .1 .1 .1 .1 .0))
 called4 c = subst (IsCall (c .before .before .before .before .before .args .line .now)) (c .before .command4 .given .1) (due (c .before .before .before .before .before))
 
 sub-colour-shot : tie.Need-sub-colour-shot

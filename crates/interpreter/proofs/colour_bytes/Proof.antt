@@ -33,7 +33,7 @@ same-length-2 c = search needs
 returns : tie.Need-returns
 returns c =
     let start = c .before .before .before .before .before .before .before .before .before .before .before .before .before .before .before .args in
-    let call = colouring (record { method = start .method; source = start .source .now; destination = start .destination .now }) in
+    let call = colouring (record { method = start .method; dial = start .dial; source = start .source .now; destination = start .destination .now }) in
     let outcome = sym (c .before .before .before .before .before .before .before .before .before .colour .ensures) ∙ ap (λ (x : Shot). step x call) (c .before .before .before .before .before .before .before .before .before .before .before .shot-of .ensures) in
     record {
       shots = c .with-shot .ensures ∙ ap (λ (o : Outcome). withShot (start .shots) (start .number) (o .answer .shot)) outcome;

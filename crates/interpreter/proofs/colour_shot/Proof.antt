@@ -48,7 +48,7 @@ returns c =
     replied
     (ap₂
     (λ (source destination : List ℕ).
-    onShot (start .shots) (start .number) (colouring (record { method = start .method; source = source; destination = destination })))
+    onShot (start .shots) (start .number) (colouring (record { method = start .method; dial = start .dial; source = source; destination = destination })))
     (writes-front (c .before .before .before .before .before .before .before .before .before .before .before .decode .ensures))
     (writes-front (c .before .before .before .before .before .before .before .before .decode2 .ensures)))
     (c .before .before .before .colour-bytes .ensures)

@@ -13,27 +13,28 @@ use Rattle.pixel.specs.declared.Pixel.{Pixel}
 use Rattle.pixel.proofs.Accurate.{moves-are-accurate, ends-stay}
 use Rattle.pixel.proofs.Paper.{moves-are-within-half}
 use Rattle.pixel.proofs.Strips.{intensity-in-range}
-use Rattle.key.specs.Widths.{KeyWidths, MovesKeepHue, MovesKeepWidths}
+use Rattle.key.specs.Widths.{RulesKeepWidths, BalanceWidths, MovesKeepHue, MovesKeepWidths}
 use Rattle.key.proofs.Chroma.{grey-stays, keeps-chroma}
 use Rattle.key.proofs.Hue.{differences-keep-hue}
 
--- a pixel that keeps the rules, and whose samples are within half a step, keeps the widths
-pub keeps-widths : (m : Method) (f : ℕ) (p q : Pixel) → PixelAccurate mission (factor m (intensity p) f) (whole f) p q
-    → SamplesWithinHalf m f p q → KeyWidths m f p q
-keeps-widths m f p q accurate half =
-    let k = factor m (intensity p) f in
+pub rules-keep-widths : RulesKeepWidths
+rules-keep-widths t k target p q accurate =
     let d = accurate .channels in
     record {
-      hueWidth = differences-keep-hue 1 k p q d;
-      chromaWidth = keeps-chroma 1 k p q d;
+      hueWidth = differences-keep-hue (t .steps) k p q d;
+      chromaWidth = keeps-chroma (t .steps) k p q d;
       intensityWidth = accurate .sum;
-      grey = grey-stays 1 k p q d;
-      samples = half;
+      grey = grey-stays (t .steps) k p q d;
     }
+
+-- a pixel that keeps the mission's rules, and whose samples are within half a step, keeps the widths of the full balance
+pub balance-widths : (m : Method) (f : ℕ) (p q : Pixel) → PixelAccurate mission (factor m (intensity p) f) (whole f) p q
+    → SamplesWithinHalf m f p q → BalanceWidths m f p q
+balance-widths m f p q accurate half = record { widths = rules-keep-widths mission _ _ p q accurate; samples = half }
 
 pub moves-keep-widths : MovesKeepWidths
 moves-keep-widths m p f bytes le ends =
-    keeps-widths m f p (moved m p f) (moves-are-accurate m p f bytes le ends) (moves-are-within-half m p f bytes le)
+    balance-widths m f p (moved m p f) (moves-are-accurate m p f bytes le ends) (moves-are-within-half m p f bytes le)
 
 -- Black and white stay for every target, so the rules that hue rests on hold without the ends' own targets.
 unmoved : (p : Pixel) → KeepsDifferences 1 (1 over 1) p p

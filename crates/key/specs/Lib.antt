@@ -1,5 +1,6 @@
 pub mod Hue
 pub mod Widths
+pub mod Dial
 pub mod Written
 pub mod Paper
 pub mod RoundedDown

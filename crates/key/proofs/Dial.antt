@@ -1,0 +1,51 @@
+-- The widths of a key under each command of the dial.
+use mathlib.Core.Path.{_≡_, refl, sym, _∙_, subst}
+use Prim.Native.Nat.{ℕ, _≤_}
+use native.Mathlib.Omega.{arith}
+use Rattle.rounding.specs.Fraction.{whole}
+use Rattle.pixel.specs.Accuracy.{factor, mission, PixelAccurate}
+use Rattle.pixel.specs.Move.{InRange, intensity, moved}
+use Rattle.pixel.specs.Paper.{SamplesWithinHalf}
+use Rattle.pixel.specs.declared.Method.{Method}
+use Rattle.pixel.specs.declared.Pixel.{Pixel}
+use Rattle.pixel.proofs.Accurate.{moves-are-accurate}
+use Rattle.pixel.proofs.Paper.{moves-are-within-half}
+use Rattle.settings.specs.Accuracy.{AccurateUnder}
+use Rattle.settings.specs.Setting.{SettingInRange, mixedPixel, writtenUnder}
+use Rattle.settings.specs.declared.Setting.{Setting}
+use Rattle.settings.specs.declared.Setting.the-variants.{Off, Mix, Hold}
+use Rattle.settings.proofs.Mixing.{mixed-full, mixed-accurate}
+use Rattle.key.specs.Dial.{BesideWidths, WidthsUnder, DialKeepsHue}
+use Rattle.key.specs.Widths.{BalanceWidths}
+use Rattle.key.proofs.Hue.{differences-keep-hue}
+use Rattle.key.proofs.Widths.{rules-keep-widths, balance-widths, moves-keep-hue}
+
+-- what is beside them: the half step, of a full balance and of a held move
+beside-widths : (setting : Setting) (m : Method) (f : ℕ) (p q : Pixel) → SettingInRange setting → InRange p → f ≤ 765
+    → q ≡ writtenUnder setting m f p → AccurateUnder setting m f p q → BesideWidths setting m f p q
+beside-widths Off m f p q ok bytes le is accurate = is
+beside-widths (Mix k) m f p q ok bytes le is accurate =
+    λ e.
+    let balance : q ≡ moved m p f = is ∙ subst (λ (j : ℕ). mixedPixel j p (moved m p f) ≡ moved m p f) (sym e) (mixed-full p (moved m p f)) in
+    balance-widths m f p q (accurate .beside e) (subst (SamplesWithinHalf m f p) (sym balance) (moves-are-within-half m p f bytes le))
+beside-widths (Hold v) m f p q ok bytes le is accurate = subst (SamplesWithinHalf m v p) (sym is) (moves-are-within-half m p v bytes ok)
+
+-- an exact pixel that keeps the rules of its setting keeps the widths of it
+pub widths-under : (setting : Setting) (m : Method) (f : ℕ) (p q : Pixel) → SettingInRange setting → InRange p → f ≤ 765
+    → q ≡ writtenUnder setting m f p → AccurateUnder setting m f p q → WidthsUnder setting m f p q
+widths-under setting m f p q ok bytes le is accurate = record {
+  widths = rules-keep-widths _ _ _ p q (accurate .rules);
+  beside = beside-widths setting m f p q ok bytes le is accurate;
+}
+
+pub dial-keeps-hue : DialKeepsHue
+dial-keeps-hue m p f bytes le ends =
+    let balance = moves-are-accurate m p f bytes le ends in
+    record {
+      off = refl;
+      mix = λ k ok.
+          let mixed = mixed-accurate k ok (factor m (intensity p) f) f p (moved m p f) bytes balance in
+          rules-keep-widths _ _ _ p (mixedPixel k p (moved m p f)) mixed .hueWidth;
+      atOne = rw (mixed-full p (moved m p f)) (moves-keep-hue m p f bytes le);
+      hold = λ v ok. moves-keep-hue m p v bytes ok;
+    }

@@ -7,6 +7,7 @@ ghost use Rattle.pixel.specs.Move.{intensity};
 ghost use Rattle.pixel.specs.Strip.{pixelsOf};
 ghost use Rattle.shot.specs.Reachable.{Reachable};
 ghost use Rattle.frames.specs.Inner.{tonesOf};
+use dial::Dial;
 use libc::STDOUT_FILENO;
 use pixel::Moved;
 use pixel::Pixel;
@@ -148,7 +149,7 @@ struct FlatShot {
     tones: Tones,
 }
 
-// A shot of three pixels of intensity 300, fixed by a choice, colours a pixel of each intensity by method 1. As they are filled, those
+// A shot of three pixels of intensity 300, fixed by a choice, colours a pixel of each intensity by method 1 at the full balance. As they are filled, those
 // of intensity 1 to 510 come out black for entry 0 only, and those of intensity 255 to 764 white for entry 765 only: so the strip
 // shows the curve, but for its ends, since black and white stay.
 fn flat_shot(choice: u32) -> FlatShot {
@@ -159,7 +160,7 @@ fn flat_shot(choice: u32) -> FlatShot {
     let source = pixel_of_each_intensity();
     // a place that the call did not write would be neither black nor white
     let mut destination = [1u8; EACH_INTENSITY];
-    let coloured = shot.colour(1, &source, &mut destination);
+    let coloured = shot.colour(1, Dial::Mix(1.0), &source, &mut destination);
     let tones = tones_of(&destination);
     FlatShot {
         measured: measured.number,

@@ -15,9 +15,12 @@ use Rattle.pixel.specs.Strip.{Bytes}
 use Rattle.curve.specs.Curve.{shareCount, fullCount, cubeEntry, equalisedEntry, withEnds, entry, toneCurve, curveOf}
 use Rattle.curve.specs.Nearest.{nearer, nearestPlace}
 use Rattle.measuring.specs.Histogram.{withPixels, sumOfFirst}
-use Rattle.colouring.specs.Colouring.{colouredStrip}
+use Rattle.settings.specs.Setting.{mixed}
+use Rattle.dial.specs.Dial.{wholeOf}
+use Rattle.colouring.specs.Colouring.{colouredUnder}
 use Rattle.shot.specs.Shot.{opened, measured, fixedWith, coloured}
 use Rattle.book.specs.Book.{Call, Call.opening, Call.measuring, Call.fixing, Call.colouring}
+use Rattle.book.specs.Reading.{stop, heldIntensity}
 use Rattle.book.specs.Run.{WellFormed}
 use Rattle.witness.specs.Calls.{calls, WitnessRuns}
 
@@ -55,5 +58,5 @@ all-well-formed (d ∷ rest) h c m =
     (List·Memᴰ·cases-cons m)
 
 pub witness-runs : WitnessRuns
-unfolding calls opened measured fixedWith coloured withPixels tabulate colouredStrip moved movedSample naikMurthy yangLee near toneCurve entry withEnds cubeEntry equalisedEntry shareCount fullCount sumOfFirst nearer nearestPlace G curveOf
-witness-runs = record { wellFormed = all-well-formed calls tt; numbers = refl; pixels = refl; bytes = refl }
+unfolding calls opened measured fixedWith coloured wholeOf stop heldIntensity withPixels tabulate colouredUnder mixed moved movedSample naikMurthy yangLee near toneCurve entry withEnds cubeEntry equalisedEntry shareCount fullCount sumOfFirst nearer nearestPlace G curveOf
+witness-runs = record { wellFormed = all-well-formed calls tt; numbers = refl; pixels = refl; settings = refl; bytes = refl }

@@ -49,7 +49,7 @@ mix-mixes k method curve source = mixed-each k (λ p. moved method p (at curve (
 
 pub amount-one-is-full-balance : AmountOneIsFullBalance
 unfolding colouredStrip colouredUnder
-amount-one-is-full-balance method curve source = each-pixel-same _ _ source (λ p m. mixed-full p (moved method p (at curve (intensity p))))
+amount-one-is-full-balance method curve source = each-pixel-same _ _ source (λ p m. mixed-full 256 p (moved method p (at curve (intensity p))) refl)
 
 -- a curve with one entry for every intensity holds all pixels there
 pub held-strip : (v : ℕ) (method : Method) (curve source : List ℕ) → Bytes source

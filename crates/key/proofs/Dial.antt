@@ -26,7 +26,7 @@ beside-widths : (setting : Setting) (m : Method) (f : ℕ) (p q : Pixel) → Set
 beside-widths Off m f p q ok bytes le is accurate = is
 beside-widths (Mix k) m f p q ok bytes le is accurate =
     λ e.
-    let balance : q ≡ moved m p f = is ∙ subst (λ (j : ℕ). mixedPixel j p (moved m p f) ≡ moved m p f) (sym e) (mixed-full p (moved m p f)) in
+    let balance : q ≡ moved m p f = is ∙ mixed-full k p (moved m p f) e in
     balance-widths m f p q (accurate .beside e) (subst (SamplesWithinHalf m f p) (sym balance) (moves-are-within-half m p f bytes le))
 beside-widths (Hold v) m f p q ok bytes le is accurate = subst (SamplesWithinHalf m v p) (sym is) (moves-are-within-half m p v bytes ok)
 
@@ -46,6 +46,6 @@ dial-keeps-hue m p f bytes le ends =
       mix = λ k ok.
           let mixed = mixed-accurate k ok (factor m (intensity p) f) f p (moved m p f) bytes balance in
           rules-keep-widths _ _ _ p (mixedPixel k p (moved m p f)) mixed .hueWidth;
-      atOne = rw (mixed-full p (moved m p f)) (moves-keep-hue m p f bytes le);
+      atOne = rw (mixed-full 256 p (moved m p f) refl) (moves-keep-hue m p f bytes le);
       hold = λ v ok. moves-keep-hue m p v bytes ok;
     }

@@ -34,7 +34,7 @@ mix-accurate k le φ f p q bytes balance = go (eqb k 256) (eqb-true k 256)
   where
     go : (t : Bool) → (t ≡ true → k ≡ 256)
         → PixelAccurate (cond t mission mixTolerance) (mixFactor k φ) ((intensity p * (256 - k) + f * k) over 256) p (mixedPixel k p q)
-    go true is = rw (is refl, mixed-full p q) (full-accurate φ f p q balance)
+    go true is = rw (mixed-full k p q (is refl), is refl) (full-accurate φ f p q balance)
     go false is = mixed-accurate k le φ f p q bytes balance
 
 -- the factor of black and white is 1
@@ -71,7 +71,8 @@ settings-are-accurate (Mix k) m p f ok bytes le ends =
     let balance = moves-are-accurate m p f bytes le ends in
     record {
       rules = mix-accurate k ok (factor m (intensity p) f) f p (moved m p f) bytes balance;
-      beside = λ e. rw (e, mixed-full p (moved m p f)) balance;
+      beside = λ e.
+          subst (PixelAccurate mission (factor m (intensity p) f) (whole f) p) (sym (mixed-full k p (moved m p f) e)) balance;
     }
 settings-are-accurate (Hold v) m p f ok bytes le ends =
     record { rules = held-accurate v ok m p f bytes; beside = ends-stay m p v bytes }

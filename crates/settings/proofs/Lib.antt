@@ -3,3 +3,4 @@ pub mod Mixing
 pub mod Rounded
 pub mod Accurate
 pub mod Order
+pub mod Examples

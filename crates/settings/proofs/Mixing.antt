@@ -1,5 +1,5 @@
 -- A pixel that is mixed with its full balance.
-use mathlib.Core.Path.{_≡_, refl, ap₂, _∙_}
+use mathlib.Core.Path.{_≡_, refl, ap, ap₂, _∙_}
 use Prim.Native.Nat.{ℕ, _+_, _-_, _*_, _/_, _<_, _≤_}
 use native.Mathlib.Nat.{one-mul, mul-one, mul-comm, mul-assoc, mul-left-comm, add-mul, mul-add, mul-pos, mul-le-mul-right, mul-lt-mul-of-pos-right, le-of-lt}
 use native.Mathlib.Omega.{arith}
@@ -27,8 +27,10 @@ mixed-all : (c c' : ℕ) → mixed 256 c c' ≡ c'
 unfolding mixed
 mixed-all c c' = omega arith
 
-pub mixed-full : (p q : Pixel) → mixedPixel 256 p q ≡ q
-mixed-full p q = λ i. record { r = mixed-all (p .r) (q .r) i; g = mixed-all (p .g) (q .g) i; b = mixed-all (p .b) (q .b) i }
+pub mixed-full : (k : ℕ) (p q : Pixel) → k ≡ 256 → mixedPixel k p q ≡ q
+mixed-full k p q e =
+    ap (λ (j : ℕ). mixedPixel j p q) e
+    ∙ (λ i. record { r = mixed-all (p .r) (q .r) i; g = mixed-all (p .g) (q .g) i; b = mixed-all (p .b) (q .b) i })
 
 -- (256 − k + k × factor) / 256
 abbrev pub mixFactor : ℕ → Fraction → Fraction

@@ -1,3 +1,4 @@
 pub mod Setting
 pub mod Accuracy
 pub mod Inner
+pub mod Examples

@@ -29,7 +29,7 @@ def by_hand():
         if second.answers(script) != answers:
             group.fault("tables", f"second.py answers {shown(second.answers(script))} to {shown(script)}")
         group.attempt(script)
-    print(f"lists: {doctored.COUNT} doctored answers, pixels and pairs")
+    print(f"lists: {doctored.COUNT} doctored answers, pixels, pairs and dials")
     return group, (), ()
 
 
@@ -58,6 +58,13 @@ def long_lines():
     for script in line_cases.last_lines():
         group.attempt(script)
     return group, (), [second.TOO_LONG]
+
+
+def by_dials():
+    group = Group("dials", [PROGRAM], SEED)
+    for lines in cases.by_dials(rng_of(group)):
+        group.attempt_lines(lines)
+    return group, (17, 18), ()
 
 
 def limits():
@@ -132,6 +139,7 @@ def groups():
     yield refusals()
     yield words()
     yield long_lines()
+    yield by_dials()
     yield limits()
     yield ties()
     # 3 is for shots that are filled to the limit

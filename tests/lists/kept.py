@@ -1,26 +1,30 @@
-"""The accuracy rule of docs/RULES.md, checked on a script and the bytes that a program answered to it, and on nothing else.
+"""The accuracy rule under every dial command, checked on a script and the bytes that a program answered to it, and on nothing else.
 
-It keeps its own account of openings, and of the strips and fixings that the answers call accepted; of what a program should have
-accepted it knows nothing. second.py has that.
+It is docs/RULES.md's, and under a dial document 02's, wish 1. It keeps its own account of openings, and of the strips, fixings and
+colourings that the answers call accepted; of what a program should have accepted it knows nothing. second.py has that.
 """
 
 import functools
 import pathlib
 import re
 import sys
-from collections import Counter
+from collections import Counter, defaultdict
 from itertools import accumulate, combinations
+from typing import NamedTuple
 
 sys.path.insert(0, str(pathlib.Path(__file__).resolve().parent.parent))
 from exact import entry
 
 FORM, ORDER, INTENSITY, DIFFERENCE, PAIR, UNTOUCHED = "form", "order", "intensity", "difference", "two pixels", "untouched"
-RULES = FORM, ORDER, INTENSITY, DIFFERENCE, PAIR, UNTOUCHED
+COPY, STAY = "off copies", "black and white stay"
+RULES = FORM, ORDER, INTENSITY, DIFFERENCE, PAIR, UNTOUCHED, COPY, STAY
 
 LONGEST = 65536
-NUMBER = re.compile(rb"([0-9])")
-NUMBER_AND_BYTES = re.compile(rb"([0-9]) (-|(?:[0-9a-f]{2})+)")
-NUMBER_AND_PIXEL = re.compile(rb"([0-9]) ([0-9a-f]{6})")
+NUMBER = re.compile(rb"(0|[1-9][0-9]?)")
+NUMBER_AND_BYTES = re.compile(rb"(0|[1-9][0-9]?) (-|(?:[0-9a-f]{2})+)")
+NUMBER_AND_PIXEL = re.compile(rb"(0|[1-9][0-9]?) ([0-9a-f]{6})")
+FLOAT = re.compile(rb"[0-9a-fA-F]{8}")
+OFF, MIX, HOLD = b"off", b"mix", b"hold"
 
 # by method, intensities and targets: the factor as numerator and denominator, where s is the intensity and f the target
 FACTORS = (
@@ -41,6 +45,50 @@ class Unfit(Exception):
     """Answers that cannot be those to the script."""
 
 
+class Setting(NamedTuple):
+    """A command with the 256ths of its amount or its held value: what two pixels share that may be compared."""
+
+    command: bytes
+    value: int = 0  # `off` has none
+
+    def full(self):
+        """Whether the mission's own bounds hold, and not those of a mix."""
+        return self.command != MIX or self.value == 256
+
+    def most_below(self):
+        """How far the brighter of two pixels may come out below the other."""
+        return 2 if self.full() else 5
+
+
+FULL = Setting(MIX, 256)
+
+
+def whole_value(bits, places):
+    """A float by its bits, times 2 to the power `places`, where that is a whole number."""
+    exponent, fraction = bits >> 23 & 255, bits & 0x7FFFFF
+    up = max(exponent, 1) - 150 + places
+    size = fraction + (2**23 if exponent else 0)
+    if exponent == 255 or (up < 0 and size % 2**-up):
+        raise Unfit(f"the float {bits:08x} is accepted")
+    size = size << up if up >= 0 else size >> -up
+    return -size if bits >> 31 else size
+
+
+@functools.lru_cache(2**12)
+def setting(dial):
+    """What an accepted colouring's dial is, by its words."""
+    if dial == OFF:
+        return Setting(OFF)
+    command, _, word = dial.partition(b" ")
+    places, most = {MIX: (8, 256), HOLD: (0, 765)}[command]
+    if not FLOAT.fullmatch(word):
+        raise Unfit(f"the float {word[:60]!r} is accepted")
+    value = whole_value(int(word, 16), places)
+    if not 0 <= value <= most:
+        raise Unfit(f"the dial {dial!r} is accepted")
+    return Setting(command, value)
+
+
 @functools.lru_cache(2**16)
 def factor(method, s, f):
     """The factor, 1 for black and white."""
@@ -53,18 +101,26 @@ def factor(method, s, f):
 
 
 @functools.lru_cache(2**18)
-def pixel_faults(method, pixel, target, written):
-    """The rules that one written pixel breaks."""
+def pixel_faults(under, method, pixel, entry, written):
+    """The rules that one written pixel breaks under a setting."""
+    s, k = sum(pixel), under.value if under.command == MIX else 256
+    what = f"{pixel} by method {method}, entry {entry}, under {under.command.decode()} {under.value} is written as {written}"
+    if under.command == OFF:
+        return () if written == pixel else ((COPY, what),)
+    if under.command == HOLD and s in (0, 765):
+        return () if written == pixel else ((STAY, what),)
+    target = under.value if under.command == HOLD else entry
+    part, whole = factor(method, s, target)
+    # how far off, in 256ths: at most one step and less than one, or at most five halves and less than two
+    sum_off, difference_off = (256, 256) if under.full() else (640, 512)
     faults = []
-    part, whole = factor(method, sum(pixel), target)
-    what = f"{pixel} by method {method} to {target} is written as {written}"
     for i, j in combinations(range(3), 2):
         before, after = pixel[i] - pixel[j], written[i] - written[j]
         if (before <= 0 < after) or (before >= 0 > after):
             faults.append((ORDER, what))
-        if abs(after * whole - before * part) >= whole:
+        if abs(256 * after * whole - before * ((256 - k) * whole + k * part)) >= difference_off * whole:
             faults.append((DIFFERENCE, what))
-    if abs(sum(written) - target) > 1:
+    if abs(256 * sum(written) - s * (256 - k) - target * k) > sum_off:
         faults.append((INTENSITY, what))
     return tuple(faults)
 
@@ -74,7 +130,7 @@ def pixels_of(data):
 
 
 class Spread:
-    """The least and the greatest written intensity of each input intensity of one shot, with the lines that wrote them."""
+    """Of one shot under one setting: the least and the greatest written intensity of each input intensity, with the lines."""
 
     def __init__(self):
         self.least = {}
@@ -84,13 +140,13 @@ class Spread:
         self.least[s] = min(self.least.get(s, (766, 0)), (written, line))
         self.most[s] = max(self.most.get(s, (-1, 0)), (written, line))
 
-    def faults(self):
-        """Each input intensity of which a pixel came out more than 2 below one that was no brighter."""
+    def faults(self, most_below):
+        """Each input intensity of which a pixel came out further than that below one that was no brighter."""
         highest = (-1, 0, 0)
         for s in sorted(self.least):
             highest = max(highest, (*self.most[s], s))
             below, line = self.least[s]
-            if highest[0] - below > 2:
+            if highest[0] - below > most_below:
                 was, other, darker = highest
                 yield line, PAIR, f"intensity {s} is written as {below}, and {darker} (line {other}) as {was}"
 
@@ -101,7 +157,7 @@ class Shot:
     def __init__(self):
         self.counts = 766 * [0]
         self.curve = None
-        self.spread = Spread()
+        self.spreads = defaultdict(Spread)
 
     def measured(self, strip, times):
         for pixel, count in Counter(pixels_of(strip)).items():
@@ -117,6 +173,11 @@ class Shot:
             return s
         choice, at_most = self.curve
         return entry(choice, at_most[765], at_most[s])
+
+    def faults(self):
+        """Pairs of pixels that break the rule; none is compared with one under another setting."""
+        for under, spread in self.spreads.items():
+            yield from spread.faults(under.most_below())
 
 
 def run_of(word):
@@ -160,7 +221,7 @@ class Account:
         except (Unfit, ValueError, IndexError, KeyError) as why:
             self.fault(FORM, f"the answers do not fit the script: {why}")
         for shot in self.shots.values():
-            self.faults.extend(shot.spread.faults())
+            self.faults.extend(shot.faults())
         return self.faults
 
     def follow_line(self, line):
@@ -177,6 +238,9 @@ class Account:
         if words[0] == b"repeat":
             times, words = int(words[1]), words[2:]
         call, count = self.calls[words.pop(0)]
+        # a dial is one argument, of one word or two
+        if call is Account.coloured and words[2] != OFF:
+            words[2:4] = [b" ".join(words[2:4])]
         if len(words) != count:
             raise Unfit("a line with other words is taken for a call")
         call(self, self.next_answers(times), *words)
@@ -186,7 +250,7 @@ class Account:
             raise Unfit("an opening is refused")
         if not answers:
             return
-        self.faults.extend(self.shots[int(which)].spread.faults())
+        self.faults.extend(self.shots[int(which)].faults())
         self.shots[int(which)] = Shot()
 
     def measured(self, answers, which, strip):
@@ -199,23 +263,23 @@ class Account:
             if parts(NUMBER, answer) == (b"0",):
                 self.shots[int(which)].fixed(int(choice))
 
-    def coloured(self, answers, which, method, source, destination):
+    def coloured(self, answers, which, method, dial, source, destination):
         for answer in answers:
             number, data = parts(NUMBER_AND_BYTES, answer)
             if number == b"0":
-                self.written(self.shots[int(which)], int(method), run_of(source), run_of(data))
+                self.written(self.shots[int(which)], int(method), setting(dial), run_of(source), run_of(data))
             elif run_of(data) != run_of(destination):
                 self.fault(UNTOUCHED, f"refused by {int(number)}, and the destination is {data[:60]!r}")
 
-    def written(self, shot, method, source, data):
+    def written(self, shot, method, under, source, data):
         if len(source) % 3 or len(source) != len(data):
             raise Unfit(f"{len(source)} bytes are coloured, and {len(data)} written")
         if not shot.curve:
             raise Unfit("a shot is coloured that was never fixed")
         for pixel, written in zip(pixels_of(source), pixels_of(data)):
             s = sum(pixel)
-            shot.spread.add(s, sum(written), self.line)
-            for fault in pixel_faults(method, pixel, shot.entry(s), written):
+            shot.spreads[under].add(s, sum(written), self.line)
+            for fault in pixel_faults(under, method, pixel, shot.entry(s), written):
                 self.fault(*fault)
 
     def moved(self, answers, method, pixel, target):
@@ -227,10 +291,10 @@ class Account:
                 continue
             (written,) = pixels_of(run_of(data))
             target = sum(pixel) if sum(pixel) in (0, 765) else int(target)
-            for fault in pixel_faults(int(method), pixel, target, written):
+            for fault in pixel_faults(FULL, int(method), pixel, target, written):
                 self.fault(*fault)
 
-    calls = {b"open": (opened, 1), b"measure": (measured, 2), b"fix": (fixed, 2), b"colour": (coloured, 4), b"move": (moved, 3)}
+    calls = {b"open": (opened, 1), b"measure": (measured, 2), b"fix": (fixed, 2), b"colour": (coloured, 5), b"move": (moved, 3)}
 
 
 def broken(script, answers):

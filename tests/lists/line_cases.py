@@ -5,7 +5,8 @@ Beside a line that is no call stands its reason, apart from second.py, and the t
 
 import itertools
 
-from second import LONGEST, NO_SUCH_CALL, NO_SUCH_SHOT, NOT_A_NUMBER, NOT_PAIRS, NOT_SIX, TOO_FEW, TOO_LONG, TOO_MANY
+from second import LONGEST, NO_SUCH_CALL, NO_SUCH_DIAL, NO_SUCH_SHOT, NOT_A_FLOAT, NOT_A_NUMBER, NOT_PAIRS, NOT_SIX
+from second import TOO_FEW, TOO_LONG, TOO_MANY
 from trial import Line
 
 # ---- Words ----
@@ -20,6 +21,10 @@ GOOD = {
     "number": [b"0", b"1", b"2", b"4294967295", b"0000000001", b"0000000000", b"0765"],
     "run": [b"-", b"00", b"fF", b"0102", b"aBcDeF", b"0123456789abcdefABCDEF99"],
     "pixel": [b"000000", b"ffffff", b"FFFFFF", b"0a1B9f"],
+    "dial": [
+        *(b"off", b"mix 3f800000", b"hold 43960000", b"mix nan", b"hold nan"),
+        *(b"mix 7FC0abcd", b"hold fF800000", b"mix 00000001"),
+    ],
 }
 OTHER_SHOT = b"0", b"5", b"00", b"10", b"257", b"65537", b"2147483649", b"4294967295", b"0000000005"
 BAD_RUN = [
@@ -30,6 +35,18 @@ BAD_PIXEL = [
     *(b"-", b"0", b"00000", b"0000000", b"00000000", b"0x0000", b"------", b"+00000"),
     *(b"00000g", b"g00000", b"G00000", b"00000/", b"00000:", b"@00000", b"`00000", b"00000\0", b"00\xff000"),
 ]
+# a word in the place of a dial command, and one in the place of a float
+BAD_COMMAND = [
+    *(b"x", b"-", b"0", b"1", b"nan", b"3f800000", b"000000", b"Off", b"OFF", b"of", b"offf", b"off,", b"no", b"on", b"full"),
+    *(b"Mix", b"MIX", b"mi", b"mixed", b"mix:", b"mix3f800000", b"mix=3f800000", b"Hold", b"HOLD", b"hol", b"holds", b"held"),
+    *(b"off\0", b"\0off", b"mix\0", b"\xff", b"hold\xa0", b"mix\x1c3f800000"),
+]
+BAD_FLOAT = [
+    *(b"-", b"0", b"1", b"1.0", b"0.5", b"-0", b"1e0", b"3f80000", b"3f8000000", b"3f80000000", b"3f80", b"0000000", b"0x3f8000"),
+    *(b"NaN", b"NAN", b"Nan", b"nann", b"nan0", b"na", b"-nan", b"+nan", b"inf", b"-inf", b"infinity", b"off", b"mix", b"hold"),
+    *(b"3f80000g", b"g3f80000", b"3f80000G", b"3f80000/", b"3f80000:", b"@f800000", b"`f800000", b"--------", b"+3f80000"),
+    *(b"3f80000\0", b"\0003f80000", b"3f80_000", b"nan\0", b"\xff", b"3f8000\xff0", b"3f8000\x1c0"),
+]
 BAD = {
     "shot": [
         *((word, NOT_A_NUMBER) for word in BAD_NUMBER),
@@ -38,12 +55,16 @@ BAD = {
     "number": [(word, NOT_A_NUMBER) for word in BAD_NUMBER],
     "run": [(word, NOT_PAIRS) for word in BAD_RUN],
     "pixel": [(word, NOT_SIX) for word in BAD_PIXEL],
+    "dial": [
+        *((word, NO_SUCH_DIAL) for word in BAD_COMMAND),
+        *((b"%s %s" % (command, word), NOT_A_FLOAT) for command in (b"mix", b"hold") for word in BAD_FLOAT),
+    ],
 }
 KINDS = {
     b"open": ["shot"],
     b"measure": ["shot", "run"],
     b"fix": ["shot", "number"],
-    b"colour": ["shot", "number", "run", "run"],
+    b"colour": ["shot", "number", "dial", "run", "run"],
     b"move": ["number", "pixel", "number"],
 }
 NO_CALLS = [
@@ -77,6 +98,19 @@ def bad_calls():
             yield good + b" " + left, TOO_MANY
 
 
+def bad_dials():
+    """Where a line ends within a dial, or brings `off` a float."""
+    for command in b"mix", b"hold":
+        yield b"colour 1 2 " + command, TOO_FEW
+        for float_word in b"3f800000", b"nan", b"ffffffff":
+            yield b"colour 1 2 %s %s" % (command, float_word), TOO_FEW
+            yield b"colour 1 2 %s %s 000000" % (command, float_word), TOO_FEW
+    yield b"colour 1 2 off nan - -", NOT_PAIRS
+    yield b"colour 1 2 off 3f80000 - -", NOT_PAIRS
+    yield b"colour 1 2 off 3f800000 - -", TOO_MANY
+    yield b"colour 1 2 off off - -", NOT_PAIRS
+
+
 def bad_repeats():
     yield b"repeat", TOO_FEW
     for word in BAD_NUMBER:
@@ -94,11 +128,11 @@ def no_calls():
     yield Line(b"fix 1 2", 0)
     for text, reason in bad_repeats():
         yield Line(text, reason)
-    for (text, reason), repeat in itertools.product(bad_calls(), REPEATS):
+    for (text, reason), repeat in itertools.product(itertools.chain(bad_calls(), bad_dials()), REPEATS):
         yield Line(repeat + text, reason)
-    yield Line(b"colour 1 2 64646401c8c7 000000000000", 0)
+    yield Line(b"colour 1 2 mix 3f800000 64646401c8c7 000000000000", 0)
     for shot in b"2", b"3", b"4":
-        yield Line(b"colour %s 1 - -" % shot, 6)
+        yield Line(b"colour %s 1 off - -" % shot, 6)
         yield Line(b"fix %s 1" % shot, 5)
 
 
@@ -137,16 +171,18 @@ def long_lines():
         yield Line(b"measure 2 " + b"7F" * ((length - 10) // 2) + b" " * (length % 2), due)
         yield Line(b"measure 3 " + b"ab" * ((length - 12) // 2) + b" \r" + b"#" * (length % 2), due)
         yield Line(b" " * (length - 6) + b"open 3", due)
-        half = (length - 12) // 4
-        yield Line(b"colour 2 1 " + b"ab" * half + b" " + b"cd" * half + b" " * ((length - 12) % 4), due)
+        for start in b"colour 2 1 off ", b"colour 2 1 mix 3f800000 ", b"colour 2 1 hold nan ":
+            half, left = divmod(length - len(start) - 1, 4)
+            yield Line(start + b"ab" * half + b" " + b"cd" * half + b" " * left, due)
         yield Line(b"0" * (length - 1) + b"1", due or NO_SUCH_CALL)
         yield Line(b"fix 4 " + b"0" * (length - 7) + b"1", due or NOT_A_NUMBER)
+        yield Line(b"colour 2 1 mix " + b"0" * (length - 19) + b" - -", due or NOT_A_FLOAT)
     # what stands after so many bytes is no line of its own
     yield Line(b" " * LONGEST + b"open 2", TOO_LONG)
     yield Line(b"open 2" + b" 1" * ((LONGEST - 6) // 2), TOO_MANY)
     yield Line(b" #" * (LONGEST // 2))
     yield Line(b"fix 2 1", 0)
-    yield Line(b"colour 2 1 7f7f7f 000000", 0)
+    yield Line(b"colour 2 1 mix 3f800000 7f7f7f 000000", 0)
 
 
 def many_lines():

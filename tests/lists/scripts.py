@@ -2,6 +2,7 @@
 
 import itertools
 
+import dials
 from second import MOST_PIXELS, NoCall, read
 
 UNSIGNED = 2**32 - 1
@@ -100,7 +101,8 @@ def stray(rng, shot):
         return "fix", shot, rng.choice(CHOICES)
     if kind < 0.75:
         lengths = [rng.choice(LENGTHS)] * 2 if rng.random() < 0.3 else rng.choices(LENGTHS, k=2)
-        return "colour", shot, rng.choice((1, 2, rng.choice(METHODS))), *(rng.randbytes(length) for length in lengths)
+        method = rng.choice((1, 2, rng.choice(METHODS)))
+        return "colour", shot, method, *dials.any_dial(rng), *(rng.randbytes(length) for length in lengths)
     return move(rng)
 
 
@@ -120,13 +122,13 @@ def filling(rng, shot):
 
 
 def long_strips(rng, shot):
-    """A shot of strips as long as a line allows, coloured so by both methods; with how often each call is made."""
+    """A shot of strips as long as a line allows, coloured so by both methods and two dials; with how often each call is made."""
     for _ in range(rng.randint(1, 3)):
         yield None, ("measure", shot, rng.randbytes(3 * rng.randint(9000, 10900)))
     yield None, ("fix", shot, rng.choice((1, 2)))
-    for method in 1, 2:
-        source = rng.randbytes(3 * rng.randint(5000, 5450))
-        yield None, ("colour", shot, method, source, rng.randbytes(len(source)))
+    for method, dial in itertools.product((1, 2), (dials.FULL, dials.good(rng))):
+        source = rng.randbytes(3 * rng.randint(5000, 5440))
+        yield None, ("colour", shot, method, *dial, source, rng.randbytes(len(source)))
 
 
 def times(rng):
@@ -142,9 +144,11 @@ def shot_calls(rng, shot, filled):
         if rng.random() < filled:
             yield from filling(rng, shot)
         turn += [("fix", shot, rng.choice((1, 2)))]
+        # few dials, so that many pixels are under one setting and can be compared
+        set_to = [dials.good(rng) for _ in range(rng.randint(1, 3))]
         for _ in range(rng.randint(1, 8)):
-            data = source(rng, pixels)
-            turn.append(("colour", shot, rng.choice((1, 2)), data, rng.randbytes(len(data))))
+            data, dial = source(rng, pixels), rng.choice(set_to) if rng.random() < 0.9 else dials.bad(rng)
+            turn.append(("colour", shot, rng.choice((1, 2)), *dial, data, rng.randbytes(len(data))))
         for call in turn:
             while rng.random() < 0.3:
                 yield times(rng), stray(rng, shot)

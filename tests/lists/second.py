@@ -11,6 +11,7 @@ import pathlib
 import re
 import sys
 from collections import Counter
+from fractions import Fraction
 from itertools import accumulate
 from typing import NamedTuple
 
@@ -21,6 +22,9 @@ LONGEST = 65536
 LARGEST = 2**32 - 1
 MOST_PIXELS = 2**24
 SHOTS = range(1, 5)
+OFF, MIX, HOLD = b"off", b"mix", b"hold"
+STOPS = 256  # an amount is a number of 256ths
+BRIGHTEST = 765
 
 TOO_LONG = "longer than 65536 bytes"
 NO_SUCH_CALL = "no such call"
@@ -30,7 +34,9 @@ NOT_A_NUMBER = "not a number from 0 to 4294967295"
 NO_SUCH_SHOT = "no such shot"
 NOT_PAIRS = "not pairs of hexadecimal digits"
 NOT_SIX = "not six hexadecimal digits"
-REASONS = TOO_LONG, NO_SUCH_CALL, TOO_FEW, TOO_MANY, NOT_A_NUMBER, NO_SUCH_SHOT, NOT_PAIRS, NOT_SIX
+NO_SUCH_DIAL = "no such dial command"
+NOT_A_FLOAT = "not a float: eight hexadecimal digits, or nan"
+REASONS = TOO_LONG, NO_SUCH_CALL, TOO_FEW, TOO_MANY, NOT_A_NUMBER, NO_SUCH_SHOT, NOT_PAIRS, NOT_SIX, NO_SUCH_DIAL, NOT_A_FLOAT
 
 DECIMAL = re.compile(rb"[0-9]{1,10}")
 HEXADECIMAL = re.compile(rb"[0-9A-Fa-f]+")
@@ -50,19 +56,48 @@ class Call(NamedTuple):
     arguments: list
 
 
-def number(word):
+class Dial(NamedTuple):
+    """A dial command, and the exact value of its float, None where that is no number; `off` brings none."""
+
+    command: bytes
+    value: Fraction | None = None
+
+
+def exact_value(bits):
+    """What a 32-bit float stands for, by its bits; None for a NaN and an infinity."""
+    negative, exponent, fraction = bits >> 31, bits >> 23 & 255, bits & 2**23 - 1
+    if exponent == 255:
+        return None
+    # the leading 1 of a fraction is not written, and subnormals have none
+    size = Fraction(2**23 + fraction, 2**150) * 2**exponent if exponent else Fraction(fraction, 2**149)
+    return -size if negative else size
+
+
+# Each kind of argument takes its words from the front of those that are left.
+
+
+def due(words):
+    if not words:
+        raise NoCall(TOO_FEW)
+    return words.pop(0)
+
+
+def number(words):
+    word = due(words)
     if not DECIMAL.fullmatch(word) or int(word) > LARGEST:
         raise NoCall(NOT_A_NUMBER)
     return int(word)
 
 
-def shot(word):
-    if number(word) not in SHOTS:
+def shot(words):
+    which = number(words)
+    if which not in SHOTS:
         raise NoCall(NO_SUCH_SHOT)
-    return number(word)
+    return which
 
 
-def strip(word):
+def strip(words):
+    word = due(words)
     if word == b"-":
         return b""
     if len(word) % 2 or not HEXADECIMAL.fullmatch(word):
@@ -70,25 +105,36 @@ def strip(word):
     return bytes.fromhex(word.decode())
 
 
-def pixel(word):
+def pixel(words):
+    word = due(words)
     if len(word) != 6 or not HEXADECIMAL.fullmatch(word):
         raise NoCall(NOT_SIX)
     return tuple(bytes.fromhex(word.decode()))
+
+
+def float_value(words):
+    word = due(words)
+    if word == b"nan":
+        return None
+    if len(word) != 8 or not HEXADECIMAL.fullmatch(word):
+        raise NoCall(NOT_A_FLOAT)
+    return exact_value(int(word, 16))
+
+
+def dial(words):
+    command = due(words)
+    if command not in (OFF, MIX, HOLD):
+        raise NoCall(NO_SUCH_DIAL)
+    return Dial(command) if command == OFF else Dial(command, float_value(words))
 
 
 ARGUMENTS = {
     b"open": (shot,),
     b"measure": (shot, strip),
     b"fix": (shot, number),
-    b"colour": (shot, number, strip, strip),
+    b"colour": (shot, number, dial, strip, strip),
     b"move": (number, pixel, number),
 }
-
-
-def due(words):
-    if not words:
-        raise NoCall(TOO_FEW)
-    return words.pop(0)
 
 
 def read(line):
@@ -100,10 +146,10 @@ def read(line):
         return None
     times, name = 1, words.pop(0)
     if name == b"repeat":
-        times, name = number(due(words)), due(words)
+        times, name = number(words), due(words)
     if name not in ARGUMENTS:
         raise NoCall(NO_SUCH_CALL)
-    arguments = [kind(due(words)) for kind in ARGUMENTS[name]]
+    arguments = [kind(words) for kind in ARGUMENTS[name]]
     if words:
         raise NoCall(TOO_MANY)
     return Call(times, name, arguments)
@@ -116,6 +162,18 @@ def pixels_of(data):
 @functools.lru_cache(maxsize=1000)
 def tally(data):
     return Counter(map(sum, pixels_of(data)))
+
+
+def whole(value, unit, most):
+    """Which of the whole numbers 0 to `most` a value is, counted in units; None if it is none of them. Minus zero is 0."""
+    if value is None or (value / unit).denominator != 1 or not 0 <= value / unit <= most:
+        return None
+    return int(value / unit)
+
+
+def written(source, becomes):
+    """A strip of what each pixel becomes."""
+    return bytes(c for p in pixels_of(source) for c in becomes(p))
 
 
 class Shot:
@@ -155,7 +213,7 @@ class Shot:
         choice, at_most = self.curve
         return entry(choice, self.pixels, at_most[s])
 
-    def colour(self, method, source, destination):
+    def colour(self, method, dial, source, destination):
         """The number, and what the destination then holds."""
         if not self.curve:
             return 6, destination
@@ -165,7 +223,18 @@ class Shot:
             return 2, destination
         if len(source) != len(destination):
             return 8, destination
-        return 0, bytes(c for p in pixels_of(source) for c in moved(method, p, self.entry(sum(p))))
+        if dial.command == OFF:
+            return 0, source
+        if dial.command == MIX:
+            k = whole(dial.value, Fraction(1, STOPS), STOPS)
+            return (17, destination) if k is None else (0, written(source, lambda p: self.mixed(method, k, p)))
+        held = whole(dial.value, 1, BRIGHTEST)
+        return (18, destination) if held is None else (0, written(source, lambda p: moved(method, p, held)))
+
+    def mixed(self, method, k, p):
+        """A pixel mixed with its full balance, of which k 256ths are taken."""
+        full = moved(method, p, self.entry(sum(p)))
+        return ((c * (STOPS - k) + balanced * k + 128) // STOPS for c, balanced in zip(p, full))
 
 
 def move(method, p, target):

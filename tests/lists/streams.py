@@ -159,7 +159,7 @@ def large_lines():
     for i in range(STRIPS):
         yield b"measure %d " % (i % 2 + 2) + b"0a141e" * (9999 + i % 2)
     yield b"fix 3 1"
-    yield b"colour 3 1 " + b"0a141e" * 5000 + b" " + b"000000" * 5000
+    yield b"colour 3 1 mix 3f000000 " + b"0a141e" * 5000 + b" " + b"000000" * 5000
 
 
 def large(group):

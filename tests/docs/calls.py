@@ -24,7 +24,7 @@ CHECKS = {
     "cube_balance_colour": [("host/specs/Host.antt", "colourChecks")],
     "balance": [("netpbm/specs/Header.antt", "numberOf"), ("still/specs/Still.antt", "sampleChecks")],
 }
-ORDINALS = ["1st", "2nd", "3rd", "4th", "5th"]
+ORDINALS = ["1st", "2nd", "3rd", "4th", "5th", "6th"]
 # limits: the file and the definition, and the pages that give it in figures
 LIMITS = {
     "pixelLimit": ("measuring/specs/Histogram.antt", [CALLS, RULES]),

@@ -43,7 +43,7 @@ def limits():
         f"| `longer than {line} bytes` |",
         f"SHOT is 1 to {last}:",
         f"are 0 to {largest}. Numbers, SHOT too, have 1 to {digits} decimal digits",
-        f"room for {(line - len('measure 1 ')) // 6:,} pixels and a `colour` line for {(line - len('colour 1 2  ')) // 12:,};",
+        f"room for {(line - len('measure 1 ')) // 6:,} pixels and a `colour` line for {(line - len('colour 1 2 mix 3f800000  ')) // 12:,};",
         f"| `not a number from 0 to {largest}` |",
     )
 

@@ -63,11 +63,11 @@ extern "C" {
 /*
  * The version. MAJOR goes up where a call gives another result for the same input, or where a program has to be changed; MINOR where
  * something is added; PATCH where neither, as for speed or words. CHANGES.md in the sources says which results change. A program that
- * depends on exact bytes can test it: #if CUBE_BALANCE_VERSION_MAJOR != 1. No call hands a version back, so keep this header with the
+ * depends on exact bytes can test it: #if CUBE_BALANCE_VERSION_MAJOR != 2. No call hands a version back, so keep this header with the
  * library that bin/library built beside it.
  */
-#define CUBE_BALANCE_VERSION_MAJOR 1
-#define CUBE_BALANCE_VERSION_MINOR 1
+#define CUBE_BALANCE_VERSION_MAJOR 2
+#define CUBE_BALANCE_VERSION_MINOR 0
 #define CUBE_BALANCE_VERSION_PATCH 0
 
 /* The bytes of a curve, and the most pixels of which cube_balance_curve makes one. (Colouring has no such limit.) */
@@ -83,7 +83,7 @@ extern "C" {
 #define CUBE_BALANCE_YANG_LEE 2
 
 /*
- * What a call hands back: accepted, or the number of the first refusal that applies. (The numbers 1, 6, 9 and 12 to 16 belong to
+ * What a call hands back: accepted, or the number of the first refusal that applies. (The numbers 1, 6, 9 and 12 to 18 belong to
  * calls that C does not have.)
  */
 #define CUBE_BALANCE_ACCEPTED 0

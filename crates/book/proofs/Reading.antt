@@ -1,23 +1,21 @@
 -- The book reads a dial as decoding has it.
 use mathlib.Core.Path.{_≡_, refl, sym, ap, _∙_, subst}
-use mathlib.Core.Bool.{Bool, true, false, not, _&&_, _||_, cond, false≢true}
+use mathlib.Core.Bool.{Bool, true, false, not, _||_, cond, false≢true}
 use mathlib.Core.Logic.{⊎-elim}
 use mathlib.Core.Option.{Option, none, some}
-use Prim.Native.Nat.{ℕ, zero, suc, _*_, _<_, _≤_}
+use Prim.Native.Nat.{ℕ, zero, suc, _*_, _<_}
 use native.Mathlib.Nat.{not-suc-le-zero, eq-or-lt-of-le}
 use native.Mathlib.Omega.{arith}
 use borrow.Author.Tests.{eqb-true, eq-eqb}
 use lib.Dec.{eqb}
 use lib.Ieee.{Float, nan, inf, fin, up, down}
 use Rattle.tables.proofs.Cases.{both}
-use Rattle.settings.specs.declared.Setting.{Setting}
-use Rattle.settings.specs.declared.Setting.the-variants as S
-use Rattle.dial.specs.Dial.{IsExactly, mixed, held, decoded, refusalOf, settingOf}
+use Rattle.dial.specs.Dial.{IsExactly, decoded, refusalOf, settingOf}
 use Rattle.dial.specs.declared.Decoded.{Decoded}
 use Rattle.dial.specs.declared.Dial.{Dial}
 use Rattle.dial.specs.declared.Dial.the-variants as D
 use Rattle.dial.proofs.Exact.{complete, none as no-whole}
-use Rattle.book.specs.Reading.{isExactly, exactBelow, stop, heldIntensity, isThere, amountIsStop, valueIsIntensity, ifThere, settingRead}
+use Rattle.book.specs.Reading.{isExactly, exactBelow, stop, heldIntensity, isThere, amountIsStop, valueIsIntensity, settingRead}
 
 -- the test is the meaning
 exact-means : (x : Float) (k n : ℕ) → isExactly x k n ≡ true → IsExactly x k n

@@ -1,10 +1,9 @@
 -- Strips under the settings of the dial.
-use mathlib.Core.Path.{_≡_, refl, ap, sym, _∙_}
-use mathlib.Core.Bool.{true, false≢true}
+use mathlib.Core.Path.{_≡_, refl, ap, sym}
+use mathlib.Core.Bool.{true}
 use mathlib.Core.List.{List, [], _∷_}
-use Prim.Native.Nat.{ℕ, suc, _≤_, _%_}
+use Prim.Native.Nat.{ℕ, _%_}
 use native.Mathlib.Omega.{arith}
-use borrow.Author.Tests.{eq-eqb}
 use lib.ListN.{length, replicate, getD-replicate}
 use Rattle.tables.specs.Table.{at}
 use Rattle.pixel.specs.Move.{intensity, moved}

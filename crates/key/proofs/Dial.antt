@@ -1,9 +1,7 @@
 -- The widths of a key under each command of the dial.
 use mathlib.Core.Path.{_≡_, refl, sym, _∙_, subst}
 use Prim.Native.Nat.{ℕ, _≤_}
-use native.Mathlib.Omega.{arith}
-use Rattle.rounding.specs.Fraction.{whole}
-use Rattle.pixel.specs.Accuracy.{factor, mission, PixelAccurate}
+use Rattle.pixel.specs.Accuracy.{factor}
 use Rattle.pixel.specs.Move.{InRange, intensity, moved}
 use Rattle.pixel.specs.Paper.{SamplesWithinHalf}
 use Rattle.pixel.specs.declared.Method.{Method}
@@ -16,8 +14,6 @@ use Rattle.settings.specs.declared.Setting.{Setting}
 use Rattle.settings.specs.declared.Setting.the-variants.{Off, Mix, Hold}
 use Rattle.settings.proofs.Mixing.{mixed-full, mixed-accurate}
 use Rattle.key.specs.Dial.{BesideWidths, WidthsUnder, DialKeepsHue}
-use Rattle.key.specs.Widths.{BalanceWidths}
-use Rattle.key.proofs.Hue.{differences-keep-hue}
 use Rattle.key.proofs.Widths.{rules-keep-widths, balance-widths, moves-keep-hue}
 
 -- what is beside them: the half step, of a full balance and of a held move

@@ -5,7 +5,8 @@ use native.Mathlib.Omega.{arith}
 use Rattle.rounding.specs.Fraction.{Fraction, whole, _⊕_, Within}
 use Rattle.rounding.specs.Near.{near}
 use Rattle.pixel.specs.Move.{naikMurthy, yangLee, movedSample, moved}
-use Rattle.key.specs.Hue.{chroma, hue, AnglesWithin}
+use Rattle.settings.specs.Setting.{mixed}
+use Rattle.key.specs.Hue.{chroma, hue, hueBound, AnglesWithin}
 use Rattle.key.specs.Examples.{rgb, examples, ExamplesHold}
 
 -- angles that are not within w as they stand, nor with a turn added to one of them
@@ -13,13 +14,15 @@ not-within : (w x y : Fraction) → (Within w x y → ⊥) → (Within w (x ⊕ 
 not-within w x y one two three within = ⊎-elim one (λ turned. ⊎-elim two three turned) within
 
 pub examples-hold : ExamplesHold
-unfolding examples near naikMurthy yangLee movedSample moved chroma hue
+unfolding examples near naikMurthy yangLee movedSample moved mixed chroma hue
 examples-hold = record {
   written = refl;
   hueIn = refl;
   hueOut = refl;
   oneShort = refl;
   notWithin59 = not-within (whole 59) (hue (rgb 255 1 0)) (hue (rgb 255 255 254)) (λ h. omega (arith, h .0, h .1)) (λ h. omega (arith, h .0, h .1)) (λ h. omega (arith, h .0, h .1));
+  mixed = refl;
+  mixedBeyond = not-within (hueBound 1 2) (hue (rgb 127 129 255)) (hue (rgb 0 2 2)) (λ h. omega (arith, h .0, h .1)) (λ h. omega (arith, h .0, h .1)) (λ h. omega (arith, h .0, h .1));
   corners = refl;
   opposite = not-within (whole 180) (whole 0) (whole 180) (λ h. omega (arith, h .0, h .1)) (λ h. omega (arith, h .0, h .1)) (λ h. omega (arith, h .0, h .1));
   notAlike = omega arith;

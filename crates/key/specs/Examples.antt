@@ -8,7 +8,9 @@ use Rattle.pixel.specs.Move.{moved}
 use Rattle.pixel.specs.declared.Method.{Method}
 use Rattle.pixel.specs.declared.Method.the-variants.{NaikMurthy, YangLee}
 use Rattle.pixel.specs.declared.Pixel.{Pixel}
-use Rattle.key.specs.Hue.{hue, AnglesWithin}
+use Rattle.settings.specs.Setting.{writtenUnder}
+use Rattle.settings.specs.declared.Setting.the-variants.{Mix}
+use Rattle.key.specs.Hue.{hue, hueBound, AnglesWithin}
 use Rattle.key.specs.RoundedDown.{roundedDown}
 
 abbrev pub rgb : ℕ → ℕ → ℕ → Pixel
@@ -65,6 +67,9 @@ pub record ExamplesHold : Type 0 where
       (q .g - q .b) * (p .r - p .b) + 1 ≡ (p .g - p .b) * (q .r - q .b) + (p .r - p .b)
   -- so 59 degrees are too few
   pub notWithin59 : AnglesWithin (whole 59) (hue (rgb 255 1 0)) (hue (rgb 255 255 254)) → ⊥
+  -- mixed with its balance, (0, 1, 1), a pixel may turn by more than 60 / chroma degrees: from 239.06 to 180 at a chroma of 2
+  pub mixed : writtenUnder (Mix 255) NaikMurthy 2 (rgb 127 129 255) ≡ rgb 0 2 2
+  pub mixedBeyond : AnglesWithin (hueBound 1 2) (hue (rgb 127 129 255)) (hue (rgb 0 2 2)) → ⊥
   -- red, yellow, green, cyan, blue and magenta are 60 degrees apart
   pub corners : map hue (rgb 255 0 0 ∷ rgb 255 255 0 ∷ rgb 0 255 0 ∷ rgb 0 255 255 ∷ rgb 0 0 255 ∷ rgb 255 0 255 ∷ [])
       ≡ map (λ (angle : ℕ). (angle * 255) over 255) (0 ∷ 60 ∷ 120 ∷ 180 ∷ 240 ∷ 300 ∷ [])

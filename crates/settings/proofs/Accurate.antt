@@ -1,5 +1,5 @@
 -- What is written under a setting keeps its rules.
-use mathlib.Core.Path.{_≡_, refl, sym, ap, subst}
+use mathlib.Core.Path.{_≡_, refl, sym, subst}
 use mathlib.Core.Bool.{Bool, true, false, cond}
 use mathlib.Core.Logic.{_⊎_, inl, inr, ⊎-elim}
 use Prim.Native.Nat.{ℕ, _*_, _+_, _-_, _≤_}
@@ -8,14 +8,14 @@ use borrow.Author.Tests.{eqb-true, eq-eqb, ne-eqb}
 use lib.Dec.{eqb}
 use Rattle.rounding.specs.Fraction.{Fraction, whole, _over_}
 use Rattle.tables.proofs.Cases.{either}
-use Rattle.pixel.specs.Accuracy.{factor, mission, PixelAccurate, OwnEnds}
+use Rattle.pixel.specs.Accuracy.{factor, mission, PixelAccurate}
 use Rattle.pixel.specs.Move.{InRange, intensity, moved}
 use Rattle.pixel.specs.declared.Method.{Method}
 use Rattle.pixel.specs.declared.Pixel.{Pixel}
 use Rattle.pixel.proofs.Accurate.{moves-are-accurate, ends-stay}
 use Rattle.pixel.proofs.Strips.{intensity-in-range}
-use Rattle.settings.specs.Accuracy.{mixTolerance, factorUnder, intensityUnder, AccurateUnder, SettingsAreAccurate}
-use Rattle.settings.specs.Setting.{writtenUnder, mixedPixel}
+use Rattle.settings.specs.Accuracy.{mixTolerance, intensityUnder, SettingsAreAccurate}
+use Rattle.settings.specs.Setting.{mixedPixel}
 use Rattle.settings.specs.declared.Setting.the-variants.{Off, Mix, Hold}
 use Rattle.settings.proofs.Mixing.{mixFactor, mixed-full, mixed-accurate, full-accurate}
 

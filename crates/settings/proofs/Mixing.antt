@@ -1,7 +1,7 @@
 -- A pixel that is mixed with its full balance.
 use mathlib.Core.Path.{_≡_, refl, ap, ap₂, _∙_}
-use Prim.Native.Nat.{ℕ, _+_, _-_, _*_, _/_, _<_, _≤_}
-use native.Mathlib.Nat.{one-mul, mul-one, mul-comm, mul-assoc, mul-left-comm, add-mul, mul-add, mul-pos, mul-le-mul-right, mul-lt-mul-of-pos-right, le-of-lt}
+use Prim.Native.Nat.{ℕ, _+_, _-_, _*_, _<_, _≤_}
+use native.Mathlib.Nat.{one-mul, mul-one, mul-comm, mul-assoc, mul-left-comm, add-mul, mul-add, mul-le-mul-right, mul-lt-mul-of-pos-right, le-of-lt}
 use native.Mathlib.Omega.{arith}
 use Rattle.rounding.specs.Fraction.{Fraction, whole, _over_, _⊕_, _⊗_, _⊘_}
 use Rattle.rounding.specs.Near.{near}

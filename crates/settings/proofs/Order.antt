@@ -1,5 +1,5 @@
 -- The order of two pixels that are written under one setting.
-use mathlib.Core.Path.{_≡_, refl}
+use mathlib.Core.Path.{_≡_}
 use mathlib.Core.Bool.{Bool, true, false, _||_, cond}
 use Prim.Native.Nat.{ℕ, _+_, _-_, _*_, _<_, _≤_}
 use native.Mathlib.Nat.{mul-le-mul-right}
@@ -8,7 +8,7 @@ use borrow.Author.Tests.{eq-eqb, ne-eqb}
 use lib.Dec.{eqb}
 use Rattle.rounding.specs.Fraction.{whole, _over_, AtMostApart}
 use Rattle.tables.proofs.Cases.{either}
-use Rattle.pixel.specs.Accuracy.{Tolerance, mission}
+use Rattle.pixel.specs.Accuracy.{mission}
 use Rattle.settings.specs.Accuracy.{mixTolerance, SettingsKeepOrder}
 use Rattle.settings.specs.declared.Setting.the-variants.{Off, Mix, Hold}
 

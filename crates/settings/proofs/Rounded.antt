@@ -1,5 +1,5 @@
 -- Demand 2 under each setting.
-use mathlib.Core.Path.{refl, _∙_}
+use mathlib.Core.Path.{refl}
 use Rattle.pixel.specs.Move.{moved}
 use Rattle.pixel.proofs.Paper.{moves-round-the-paper}
 use Rattle.settings.specs.Setting.{mixed, SettingsRoundThePaper}

@@ -1,6 +1,5 @@
 -- `colouring::colour_mixed` meets its contract.
-use mathlib.Core.Path.{_≡_, sym, ap, _∙_}
-use mathlib.Core.List.{List}
+use mathlib.Core.Path.{sym, ap, _∙_}
 use Prim.Native.Nat.{ℕ}
 use Rattle.settings.specs.Inner.{mixedBytes}
 use Rattle.colouring.specs.Colouring.{colouredUnder}

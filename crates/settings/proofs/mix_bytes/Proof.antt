@@ -1,6 +1,5 @@
 -- `settings::mix_bytes` meets its contract.
 use Prim.Native.Nat.{_-_}
-use native.Mathlib.Omega.{arith}
 use lib.ListN.{length}
 use borrow.Author.Needs.{needs}
 use Rattle.settings.proofs.Bytes.{MixedTo, mixed-start, mixed-more, mixed-end}

@@ -13,7 +13,6 @@ use Rattle.pixel.specs.declared.Method.{Method}
 use Rattle.settings.specs.Setting.{SettingInRange}
 use Rattle.settings.specs.declared.Setting.{Setting}
 use Rattle.dial.specs.Dial.{decoded, refusalOf, settingOf}
-use Rattle.dial.specs.declared.Decoded.{Decoded}
 use Rattle.dial.proofs.Range.{setting-in-range}
 use Rattle.colouring.specs.Colouring.{colouredUnder}
 use Rattle.shot.specs.Shot.{ColourRequest, colourChecks, coloured}

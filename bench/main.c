@@ -1,18 +1,21 @@
 /*
  * Times the library's two calls beside the plain C version: on one core, in one run, the two in turns. What it prints are the tables
- * of docs/BENCHMARK.md. No time is taken before both have given the same bytes. With the argument `check` it stops after that.
+ * of docs/BENCHMARK.md; the last one, on the dial, is dial.c's. No time is taken before both have given the same bytes. With the argument
+ * `check` it stops after that.
  */
 #define _POSIX_C_SOURCE 200809L
 #include "cube_balance.h"
+#include "dial.h"
 #include "frames.h"
 #include "plain.h"
+#include "timing.h"
 
 #include <stdio.h>
 #include <stdlib.h>
 #include <string.h>
 #include <time.h>
 
-enum { RUNS = 31, MOST_PIXELS = 3840 * 2160, FEW_PIXELS = 1000 };
+enum { MOST_PIXELS = 3840 * 2160, FEW_PIXELS = 1000 };
 
 static const double SLOT_MS = 41.7;
 
@@ -27,17 +30,6 @@ typedef struct {
 } Work;
 
 typedef void Job(Work *);
-
-/* Seconds: the best of all runs, and the median. */
-typedef struct {
-    double best;
-    double median;
-} Times;
-
-typedef struct {
-    Times ours;
-    Times plain;
-} Both;
 
 /* ---- The jobs ---- */
 
@@ -137,18 +129,6 @@ static double seconds(Job *job, Work *w)
     return (now() - start) / (double)repeats;
 }
 
-static int by_size(const void *a, const void *b)
-{
-    double x = *(const double *)a, y = *(const double *)b;
-    return (x > y) - (x < y);
-}
-
-static Times times_of(double *runs)
-{
-    qsort(runs, RUNS, sizeof *runs, by_size);
-    return (Times){.best = runs[0], .median = runs[RUNS / 2]};
-}
-
 /* In turns, and each first in every other turn, so that what else the machine does falls on both. */
 static Both time_both(Job *ours, Job *plain, Work *w)
 {
@@ -169,27 +149,6 @@ static Times time_one(Job *job, Work *w)
     for (int k = 0; k < RUNS; k++)
         runs[k] = seconds(job, w);
     return times_of(runs);
-}
-
-static Times scaled(Times t, double by)
-{
-    return (Times){.best = t.best * by, .median = t.median * by};
-}
-
-static Both both_scaled(Both b, double by)
-{
-    return (Both){.ours = scaled(b.ours, by), .plain = scaled(b.plain, by)};
-}
-
-/* The difference of the bests, and of the medians. */
-static Times less(Times a, Times b)
-{
-    return (Times){.best = a.best - b.best, .median = a.median - b.median};
-}
-
-static Both both_less(Both a, Both b)
-{
-    return (Both){.ours = less(a.ours, b.ours), .plain = less(a.plain, b.plain)};
 }
 
 /* ---- One frame ---- */
@@ -351,10 +310,12 @@ int main(int count, char **arguments)
     Work w = {.source = source, .destination = destination};
     if (checking) {
         check(&w, source, expected);
+        check_dial();
         return 0;
     }
     frame_tables(1920, 1080, &w, source, expected);
     frame_tables(3840, 2160, &w, source, expected);
     size_table(&w, source, expected);
+    dial_table();
     return 0;
 }

@@ -131,14 +131,38 @@ static inline void colour_by(uint32_t method, const uint16_t *entries, const uin
     }
 }
 
+static void colour_entries(uint32_t method, const uint16_t *entries, const uint8_t *restrict source, size_t length,
+                           uint8_t *restrict destination)
+{
+    if (method == 1)
+        colour_by(1, entries, source, length, destination);
+    else
+        colour_by(2, entries, source, length, destination);
+}
+
 void plain_colour(const uint8_t *curve, uint32_t method, const uint8_t *restrict source, size_t length,
                   uint8_t *restrict destination)
 {
     uint16_t entries[SUMS];
     for (uint32_t s = 0; s < SUMS; s++)
         entries[s] = (uint16_t)(curve[2 * s] + 256 * curve[2 * s + 1]);
-    if (method == 1)
-        colour_by(1, entries, source, length, destination);
-    else
-        colour_by(2, entries, source, length, destination);
+    colour_entries(method, entries, source, length, destination);
+}
+
+/* ---- The dial ---- */
+
+void plain_mix(const uint8_t *curve, uint32_t method, uint32_t k, const uint8_t *restrict source, size_t length,
+               uint8_t *restrict destination)
+{
+    plain_colour(curve, method, source, length, destination);
+    for (size_t i = 0; i < length; i++)
+        destination[i] = (uint8_t)((source[i] * (256 - k) + destination[i] * k + 128) / 256);
+}
+
+void plain_hold(uint32_t method, uint32_t v, const uint8_t *restrict source, size_t length, uint8_t *restrict destination)
+{
+    uint16_t entries[SUMS];
+    for (uint32_t s = 0; s < SUMS; s++)
+        entries[s] = (uint16_t)v;
+    colour_entries(method, entries, source, length, destination);
 }

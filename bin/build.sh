@@ -1,10 +1,10 @@
 # shellcheck shell=bash
-# What bin/balance, bin/replay and bin/library share: each builds its product where that is missing or older than its sources. They
-# source this file, which nobody runs, and are then in the project's folder. It speaks on standard error, since standard output is
-# theirs.
+# What bin/balance, bin/replay, bin/library and bench/run share: each builds its product where that is missing or older than its
+# sources. They source this file, which nobody runs, and are then in the project's folder. It speaks on standard error, since standard
+# output is theirs.
 script=$(realpath "$0")
 cd "$(dirname "$script")/.."
-script=bin/$(basename "$script")
+script=$(basename "$(dirname "$script")")/$(basename "$script")
 
 say() {
     echo "$script: $1" >&2

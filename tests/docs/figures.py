@@ -76,13 +76,26 @@ def size_sentences(sizes):
     yield OPEN, f"its 766 lines take {colour:.1f} µs"
 
 
+def dial_sentences(rows):
+    """What is said of the dial's settings, by the medians: plain C's time over ours, and ours over the full balance's."""
+    plain, full = 8, 10
+    any_frame = {"frame": "", "method": ""}
+    library = span(numbers(rows, full, **any_frame, setting="the library's call"), 2)
+    yield PERFORMANCE, f"| the library's call takes {library} times its time | met |"
+    yield PERFORMANCE, f"| {span(numbers(rows, full, **any_frame, setting='hold'), 2)} times | met |"
+    yield PERFORMANCE, f"at most 1.6 times the full balance | {span(numbers(rows, full, **any_frame, setting='mix'), 2)} times | met |"
+    off = {**any_frame, "setting": "off"}
+    yield PERFORMANCE, f"| {span(numbers(rows, full, **off), 2)} times the full balance; {span(numbers(rows, plain, **off), 2)} times plain C's speed |"
+
+
 def benchmark_sentences():
     found = tables(read(DOCS / "BENCHMARK.md"))
-    if [table.head[0] for table in found] != ["frame", "frame", "frame", "frame", "pixels"]:
-        raise SystemExit("docs/BENCHMARK.md has not its five tables")
+    if [table.head[0] for table in found] != ["frame", "frame", "frame", "frame", "pixels", "frame"]:
+        raise SystemExit("docs/BENCHMARK.md has not its six tables")
     yield from jobs_sentences(found[0].rows + found[2].rows)
     yield from frame_sentences(found[3].rows)
     yield from size_sentences(found[4].rows)
+    yield from dial_sentences(found[5].rows)
 
 
 def tolerance_sentences():

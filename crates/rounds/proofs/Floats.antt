@@ -1,8 +1,8 @@
 -- The floats of the head: a number of 16 bits, and its 256th part, are not rounded.
 use mathlib.Core.Path.{_≡_, refl, sym, ap, _∙_, subst}
 use mathlib.Core.Bool.{true, false, true≢false}
-use Prim.Native.Nat.{ℕ, _+_, _*_, _^_, _≤_, _<_}
-use native.Mathlib.Nat.{mul-assoc, mul-comm, mul-pos, mul-one, lt-of-lt-of-le, le-of-lt, le-trans, mul-lt-mul-of-pos-right}
+use Prim.Native.Nat.{ℕ, _*_, _^_, _<_}
+use native.Mathlib.Nat.{mul-assoc, mul-comm, mul-pos, lt-of-lt-of-le, le-of-lt, le-trans, mul-lt-mul-of-pos-right}
 use lib.Dec.{lit<, lit≤}
 use lib.IntN.{pos}
 use lib.Pow.{pow-pos}

@@ -102,8 +102,10 @@ def tolerance_sentences():
     """What the pages say of the accuracy rule's tolerance and of the hue bound, by the definitions of specs/."""
     accuracy, hue = read(CRATES / "pixel/specs/Accuracy.antt"), read(CRATES / "key/specs/Hue.antt")
     mission = re.search(r"^mission = record \{ steps = (\d+); sum = whole (\d+); below = (\d+) \}$", accuracy, re.M)
+    settings = read(CRATES / "settings/specs/Accuracy.antt")
+    mix = re.search(r"^mixTolerance = record \{ steps = (\d+); sum = (\d+) over (\d+); below = (\d+) \}$", settings, re.M)
     bound = re.search(r"^hueBound n c = \((\d+) \* n\) over c$", hue, re.M)
-    if not mission or not bound:
+    if not mission or not mix or not bound:
         raise SystemExit("specs/ do not give the tolerance, or the hue bound, in figures")
     steps, most, below = map(int, mission.groups())
     degrees = int(bound.group(1)) * steps
@@ -123,6 +125,16 @@ def tolerance_sentences():
     yield ACCURACY, f"| the curve's entry for the source pixel's intensity | at most {most}, a third"
     yield HEADER, f"the intensity is at most {words.get(most, most)} from the curve's entry for the input intensity;"
     yield HEADER, f"has an intensity at most {words.get(below, below)} below the other's."
+    yield from mix_sentences(*map(int, mix.groups()), int(bound.group(1)))
+
+
+def mix_sentences(steps, over, under, below, degrees):
+    """What the pages say of the tolerance and the hue bound of a mix."""
+    yield RULES, (
+        f"| mix, k below 256 | at most {over} / {under} from (s × (256 − k) + f × k) / 256 | (256 − k + k × factor) / 256 | {steps} | {below} |"
+    )
+    yield PROMISES, f"the intensity is within {over} / {under}, a difference less than {steps} steps off, the order at most {below} below;"
+    yield README, f"a mix of source and balance keeps hue to less than {degrees * steps}° divided by the written chroma"
 
 
 def delivery_sentences():

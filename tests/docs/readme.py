@@ -55,7 +55,7 @@ def trust_faults(text, logs):
 
 def reports():
     """rt's reports on the programs and on the library for C."""
-    names = {"`balance`": "balance.out", "`replay`": "replay.out", "`frames`": "frames.out", "the library for C": "host.say"}
+    names = {"`balance`": "balance.out", "`replay`": "replay.out", "`rounds`": "rounds.out", "`frames`": "frames.out", "the library for C": "host.say"}
     return {said_as: read(LOGS / name) for said_as, name in names.items()}
 
 

@@ -34,8 +34,8 @@ NOT_A_NUMBER = "not a number from 0 to 4294967295"
 NO_SUCH_SHOT = "no such shot"
 NOT_PAIRS = "not pairs of hexadecimal digits"
 NOT_SIX = "not six hexadecimal digits"
-NO_SUCH_DIAL = "no such dial command"
-NOT_A_FLOAT = "not a float: eight hexadecimal digits, or nan"
+NO_SUCH_DIAL = "no such dial command: off, mix or hold"
+NOT_A_FLOAT = "not a float's bits: eight hexadecimal digits, or nan"
 REASONS = TOO_LONG, NO_SUCH_CALL, TOO_FEW, TOO_MANY, NOT_A_NUMBER, NO_SUCH_SHOT, NOT_PAIRS, NOT_SIX, NO_SUCH_DIAL, NOT_A_FLOAT
 
 DECIMAL = re.compile(rb"[0-9]{1,10}")

@@ -32,7 +32,7 @@ strip-size [] = omega arith
 strip-size (byte ∷ bytes) = omega (arith, length-encoded (byte ∷ bytes))
 
 -- a reason
-pub reason-size : (fault : Fault) → length (reasonText fault) ≤ 45
+pub reason-size : (fault : Fault) → length (reasonText fault) ≤ 52
 reason-size TooLong = omega arith
 reason-size NoSuchCall = omega arith
 reason-size TooFewWords = omega arith

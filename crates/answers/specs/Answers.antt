@@ -31,8 +31,8 @@ reasonText NotANumber = ascii "not a number from 0 to 4294967295"
 reasonText NoSuchShot = ascii "no such shot"
 reasonText NotPairs = ascii "not pairs of hexadecimal digits"
 reasonText NotAPixel = ascii "not six hexadecimal digits"
-reasonText NoSuchDial = ascii "no such dial command"
-reasonText NotAFloat = ascii "not a float: eight hexadecimal digits, or nan"
+reasonText NoSuchDial = ascii "no such dial command: off, mix or hold"
+reasonText NotAFloat = ascii "not a float's bits: eight hexadecimal digits, or nan"
 
 -- The answer to a line that is no call, by its number.
 unfoldable pub faultText : Fault → ℕ → List ℕ

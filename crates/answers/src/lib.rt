@@ -57,9 +57,13 @@ fn write_reason(fault: Fault, output: &mut [u8], place: usize) -> usize
         Fault::NoSuchShot => text::write_text(b"no such shot", output, place),
         Fault::NotPairs => text::write_text(b"not pairs of hexadecimal digits", output, place),
         Fault::NotAPixel => text::write_text(b"not six hexadecimal digits", output, place),
-        Fault::NoSuchDial => text::write_text(b"no such dial command", output, place),
+        Fault::NoSuchDial => text::write_text(
+            b"no such dial command: off, mix or hold",
+            output,
+            place,
+        ),
         Fault::NotAFloat => text::write_text(
-            b"not a float: eight hexadecimal digits, or nan",
+            b"not a float's bits: eight hexadecimal digits, or nan",
             output,
             place,
         ),

@@ -15,17 +15,17 @@ use Rattle.dial.specs.declared.Decoded.{Decoded}
 use Rattle.dial.specs.declared.Dial.{Dial}
 use Rattle.dial.specs.declared.Dial.the-variants as D
 use Rattle.dial.proofs.Exact.{complete, none as no-whole}
-use Rattle.book.specs.Reading.{isExactly, exactBelow, stop, heldIntensity, isThere, amountIsStop, valueIsIntensity, settingRead}
+use Rattle.book.specs.Reading.{isQuotient, exactBelow, stop, heldIntensity, isThere, amountIsStop, valueIsIntensity, settingRead}
 
 -- the test is the meaning
-exact-means : (x : Float) (k n : ℕ) → isExactly x k n ≡ true → IsExactly x k n
+exact-means : (x : Float) (k n : ℕ) → isQuotient x k n ≡ true → IsExactly x k n
 exact-means nan k n e = false≢true e
 exact-means (inf s) k n e = false≢true e
 exact-means (fin s m e) k n t =
     let (sign, same) = both (not s || eqb k 0) (eqb (m * up e * n) (k * down e)) t in
     (sign, eqb-true (m * up e * n) (k * down e) same)
 
-means-exact : (x : Float) (k n : ℕ) → IsExactly x k n → isExactly x k n ≡ true
+means-exact : (x : Float) (k n : ℕ) → IsExactly x k n → isQuotient x k n ≡ true
 means-exact nan k n h = absurd h
 means-exact (inf s) k n h = absurd h
 means-exact (fin s m e) k n (sign, same) = simp (sign, eq-eqb (m * up e * n) (k * down e) same)
@@ -33,9 +33,9 @@ means-exact (fin s m e) k n (sign, same) = simp (sign, eq-eqb (m * up e * n) (k 
 -- what is found is exact
 found : (n end : ℕ) (x : Float) (k : ℕ) → exactBelow n end x ≡ some k → (k < end) × IsExactly x k n
 found n zero x k e = absurd (false≢true (ap isThere e))
-found n (suc j) x k e = go (isExactly x j n) refl e (found n j x k)
+found n (suc j) x k e = go (isQuotient x j n) refl e (found n j x k)
   where
-    go : (t : Bool) → isExactly x j n ≡ t → cond t (some j) (exactBelow n j x) ≡ some k
+    go : (t : Bool) → isQuotient x j n ≡ t → cond t (some j) (exactBelow n j x) ≡ some k
         → (exactBelow n j x ≡ some k → (k < j) × IsExactly x k n) → (k < suc j) × IsExactly x k n
     go true is e below =
         let same : j ≡ k = cc in
@@ -45,9 +45,9 @@ found n (suc j) x k e = go (isExactly x j n) refl e (found n j x k)
 -- and where nothing is found, nothing is
 not-found : (n end : ℕ) (x : Float) → exactBelow n end x ≡ none → (k : ℕ) → k < end → IsExactly x k n → ⊥
 not-found n zero x e k less exact = not-suc-le-zero less
-not-found n (suc j) x e k less exact = go (isExactly x j n) refl e (not-found n j x)
+not-found n (suc j) x e k less exact = go (isQuotient x j n) refl e (not-found n j x)
   where
-    go : (t : Bool) → isExactly x j n ≡ t → cond t (some j) (exactBelow n j x) ≡ none
+    go : (t : Bool) → isQuotient x j n ≡ t → cond t (some j) (exactBelow n j x) ≡ none
         → (exactBelow n j x ≡ none → (i : ℕ) → i < j → IsExactly x i n → ⊥) → ⊥
     go true is e below = false≢true (sym (ap isThere e))
     go false is e below =

@@ -11,15 +11,15 @@ use Rattle.dial.specs.declared.Dial.the-variants as D
 
 -- Whether the float is k / n exactly. `fin s m e` is m × 2^e, that is m × up e / down e, with a minus sign where s; such a sign stands before
 -- zero alone: "minus zero is zero".
-abbrev pub isExactly : Float → ℕ → ℕ → Bool
-isExactly nan k n = false
-isExactly (inf s) k n = false
-isExactly (fin s m e) k n = (not s || eqb k 0) && eqb (m * up e * n) (k * down e)
+abbrev pub isQuotient : Float → ℕ → ℕ → Bool
+isQuotient nan k n = false
+isQuotient (inf s) k n = false
+isQuotient (fin s m e) k n = (not s || eqb k 0) && eqb (m * up e * n) (k * down e)
 
 -- The k below `end` of which the float is k / n exactly, if there is one.
 abbrev pub exactBelow : ℕ → ℕ → Float → Option ℕ
 exactBelow n zero x = none
-exactBelow n (suc k) x = cond (isExactly x k n) (some k) (exactBelow n k x)
+exactBelow n (suc k) x = cond (isQuotient x k n) (some k) (exactBelow n k x)
 
 -- "an amount counts only if it is exactly k/256, k from 0 to 256"
 unfoldable pub stop : Float → Option ℕ
@@ -45,11 +45,12 @@ valueIsIntensity D.Off = true
 valueIsIntensity (D.Mix x) = true
 valueIsIntensity (D.Hold x) = isThere (heldIntensity x)
 
--- The setting that the command is: of a refused one, off.
+-- The setting of a number, where there is one; off where there is none.
 abbrev pub ifThere : (ℕ → Setting) → Option ℕ → Setting
 ifThere to none = S.Off
 ifThere to (some k) = to k
 
+-- The setting that the command is; of a refused one, off.
 abbrev pub settingRead : Dial → Setting
 settingRead D.Off = S.Off
 settingRead (D.Mix x) = ifThere S.Mix (stop x)

@@ -171,7 +171,7 @@ colourings-keep-order c d h k same v w mv mw =
     (k .setting (second .accepted)) (h .tone (first .accepted) (first .some)) (h .bytes) (k .bytes) v w (first .member)
     (subst (λ (curve : List ℕ). w among colouredPixels (d .setting) (d .method) curve (d .source)) (sym same) (second .member))
 
--- what a colouring at amount 1 writes keeps the mission's own rules, is the paper's, rounded once, and keeps the mission's order
+-- what a colouring at amount 1 writes is the paper's, rounded once, and keeps the mission's own rules
 pub record Balanced (w : Written) : Type 0 where
   pub setting : w .setting ≡ full
   pub rounded : BalanceRounded w

@@ -1,4 +1,5 @@
-// Colouring a strip by a curve and a method (document 01, "Moving a pixel"), along the lines of its intensities.
+// Colouring a strip by a curve and a method (document 01, "Moving a pixel"), along the lines of its intensities, and under a setting of the
+// dial (document 02, wish 1).
 ghost use mathlib.Core.Path.{_≡_};
 ghost use Rattle.curve.specs.Curve.{EntriesInRange};
 ghost use Prim.Native.Nat.{_≤_};
@@ -64,14 +65,15 @@ fn colour_mixed(k: u32, curve: &[u16; 766], method: Method, source: &[u8], desti
     ensures { λ _. ⌜ now (destination .exit) ≡ colouredUnder (Mix k) method (now (curve .entry)) (now (source .entry)) ⌝ }
 {
     colour_strip(curve, method, source, destination);
-    // At amount 1 the full balance stays.
+    // At amount 1 the mix would leave it as it is.
     if k == settings::FULL {
         return;
     }
     settings::mix_bytes(k, source, destination);
 }
 
-// Every pixel of the source, moved to the intensity v: it stands in the place of every entry.
+// Every pixel of the source but black and white, moved to the intensity v: it stands in the place of every entry. (That is no tone curve, but
+// black and white stay whatever their entries are.)
 fn colour_held(v: u32, method: Method, source: &[u8], destination: &mut [u8])
     requires { ⌜ v ≤ 765 ⌝ }
     requires { ⌜ SameSize (now source) (now destination) ⌝ }

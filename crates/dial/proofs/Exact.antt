@@ -10,8 +10,8 @@ use lib.Ieee.{Float, nan, inf, fin, up, down}
 use lib.Ieee.Fits.{down-pos}
 use Rattle.tables.proofs.Cases.{both}
 use Rattle.settings.specs.declared.Setting.the-variants as S
-use Rattle.dial.specs.Dial.{hasSign, IsExactly, wholeIf, wholeOf, mixed, held, decoded, refusalOf, fullBalance, DecodingIsExact}
-use Rattle.dial.specs.declared.Decoded.the-variants.{Set}
+use Rattle.dial.specs.Dial.{mayHaveSign, IsExactly, wholeIf, wholeOf, asMix, asHold, decoded, refusalOf, fullBalance, DecodingIsExact}
+use Rattle.dial.specs.declared.Decoded.the-variants.{Accepted}
 use Rattle.dial.specs.declared.Whole.{Whole}
 use Rattle.dial.specs.declared.Whole.the-variants.{Is, Not}
 
@@ -28,8 +28,8 @@ sound n top (inf s) k found = absurd (false≢true cc)
 sound n top (fin s m e) k found =
     let num = m * up e * n in
     let j = num / down e in
-    let (tests, same) = passed (hasSign j s && (eqb num (j * down e) && leb j top)) j k found in
-    let (sign, others) = both (hasSign j s) (eqb num (j * down e) && leb j top) tests in
+    let (tests, same) = passed (mayHaveSign j s && (eqb num (j * down e) && leb j top)) j k found in
+    let (sign, others) = both (mayHaveSign j s) (eqb num (j * down e) && leb j top) tests in
     let (value, range) = both (eqb num (j * down e)) (leb j top) others in
     subst (λ (i : ℕ). (i ≤ top) × IsExactly (fin s m e) i n) same (leb-true j top range, (sign, eqb-true num (j * down e) value))
 
@@ -60,25 +60,25 @@ agree n top x y same = go (wholeOf n top x) refl
     go Not found = none 1 top y (λ k range exact. let is = complete n top x k range (same k .0 exact) in false≢true cc)
 
 -- an amount that was decoded to a stop had that whole number
-mixed-is : (w : Whole) (k : ℕ) → mixed w ≡ Set (S.Mix k) → w ≡ Is k
+mixed-is : (w : Whole) (k : ℕ) → asMix w ≡ Accepted (S.Mix k) → w ≡ Is k
 mixed-is (Is j) k e = cc
 mixed-is Not k e = cc
 
 -- and so had a held value that was decoded to an intensity
-held-is : (w : Whole) (k : ℕ) → held w ≡ Set (S.Hold k) → w ≡ Is k
+held-is : (w : Whole) (k : ℕ) → asHold w ≡ Accepted (S.Hold k) → w ≡ Is k
 held-is (Is j) k e = cc
 held-is Not k e = cc
 
 pub decoding-is-exact : DecodingIsExact
 decoding-is-exact = record {
   off = refl;
-  mixes = λ x k. (λ e. sound 256 256 x k (mixed-is (wholeOf 256 256 x) k e), λ (range, exact). ap mixed (complete 256 256 x k range exact));
-  holds = λ x k. (λ e. sound 1 765 x k (held-is (wholeOf 1 765 x) k e), λ (range, exact). ap held (complete 1 765 x k range exact));
-  noStop = λ x never. ap (λ (w : Whole). refusalOf (mixed w)) (none 256 256 x never);
-  noIntensity = λ x never. ap (λ (w : Whole). refusalOf (held w)) (none 1 765 x never);
+  mixes = λ x k. (λ e. sound 256 256 x k (mixed-is (wholeOf 256 256 x) k e), λ (range, exact). ap asMix (complete 256 256 x k range exact));
+  holds = λ x k. (λ e. sound 1 765 x k (held-is (wholeOf 1 765 x) k e), λ (range, exact). ap asHold (complete 1 765 x k range exact));
+  noStop = λ x never. ap (λ (w : Whole). refusalOf (asMix w)) (none 256 256 x never);
+  noIntensity = λ x never. ap (λ (w : Whole). refusalOf (asHold w)) (none 1 765 x never);
 }
 
--- the whole balance is the stop 256
-pub full-balance : decoded fullBalance ≡ Set (S.Mix 256)
+-- the full balance is the stop 256
+pub full-balance : decoded fullBalance ≡ Accepted (S.Mix 256)
 unfolding wholeOf
 full-balance = refl

@@ -15,21 +15,21 @@ use lib.Ieee.Exact.{HasValue}
 use lib.Ieee.Fits.{down-pos}
 use lib.Ieee.Order.{le-of-values}
 use Rattle.tables.proofs.Cases.{both}
-use Rattle.dial.specs.Dial.{hasSign, IsExactly}
+use Rattle.dial.specs.Dial.{mayHaveSign, IsExactly}
 
 -- a float that is a / c is k exactly if a / c is
 pub same-value : (y : Float) (s : Bool) (a c k : ℕ) → 0 < c → HasValue y s a c
-    → IsExactly y k 1 ↔ (hasSign k s ≡ true) × (a ≡ k * c)
+    → IsExactly y k 1 ↔ (mayHaveSign k s ≡ true) × (a ≡ k * c)
 same-value nan s a c k positive at = absurd at
 same-value (inf t) s a c k positive at = absurd at
 same-value (fin t m e) s a c k positive (same, cross) = (
   λ (sign, value). (
-    subst (λ (u : Bool). hasSign k u ≡ true) same sign,
+    subst (λ (u : Bool). mayHaveSign k u ≡ true) same sign,
     eq-of-mul-eq-mul-right (down e) (down-pos e) a (k * c)
         (sym cross ∙ ap (λ (x : ℕ). x * c) (sym (mul-one (m * up e)) ∙ value) ∙ mul-right-comm k (down e) c),
   ),
   λ (sign, value). (
-    subst (λ (u : Bool). hasSign k u ≡ true) (sym same) sign,
+    subst (λ (u : Bool). mayHaveSign k u ≡ true) (sym same) sign,
     mul-one (m * up e)
         ∙ eq-of-mul-eq-mul-right c positive (m * up e) (k * down e) (cross ∙ ap (λ (x : ℕ). x * down e) value ∙ mul-right-comm k c (down e)),
   ),
@@ -113,7 +113,7 @@ pub equal : (y x : Float) (k : ℕ) → HasValue x false k 1 → eq x y ≡ true
 unfolding eq
 equal y x k at = of-plus (λ (x : Float). eq x y ≡ true → IsExactly y k 1) x k at (go y)
   where
-    signed : (s : Bool) (a : ℕ) → (a ≡ 0 → k ≡ 0) → (Bool·beq false s || eqb a 0) ≡ true → hasSign k s ≡ true
+    signed : (s : Bool) (a : ℕ) → (a ≡ 0 → k ≡ 0) → (Bool·beq false s || eqb a 0) ≡ true → mayHaveSign k s ≡ true
     signed true a zero sign = eq-eqb k 0 (zero (eqb-true a 0 sign))
     signed false a zero sign = refl
 

@@ -3,7 +3,7 @@ use mathlib.Core.Path.{_≡_, refl}
 use Prim.Native.Nat.{ℕ, _≤_}
 use lib.Ieee.{Float}
 use Rattle.settings.specs.Setting.{SettingInRange}
-use Rattle.dial.specs.Dial.{wholeOf, mixed, held, decoded, settingOf}
+use Rattle.dial.specs.Dial.{wholeOf, asMix, asHold, decoded, settingOf}
 use Rattle.dial.specs.declared.Decoded.{Decoded}
 use Rattle.dial.specs.declared.Dial.{Dial}
 use Rattle.dial.specs.declared.Dial.the-variants as D
@@ -23,5 +23,5 @@ whole-in-range n top x to is not = go (wholeOf n top x) refl
 -- of a refused command it is off, which is in range too
 pub setting-in-range : (d : Dial) → SettingInRange (settingOf (decoded d))
 setting-in-range D.Off = tt
-setting-in-range (D.Mix x) = whole-in-range 256 256 x mixed (λ k le. le) tt
-setting-in-range (D.Hold x) = whole-in-range 1 765 x held (λ v le. le) tt
+setting-in-range (D.Mix x) = whole-in-range 256 256 x asMix (λ k le. le) tt
+setting-in-range (D.Hold x) = whole-in-range 1 765 x asHold (λ v le. le) tt

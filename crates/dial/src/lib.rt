@@ -12,7 +12,7 @@ pub enum Dial {
 
 // What a command is decoded to: a setting, or what is wrong with it.
 pub enum Decoded {
-    Set(Setting),
+    Accepted(Setting),
     NotAStop,
     NotAnIntensity,
 }
@@ -23,7 +23,7 @@ enum Whole {
     Not,
 }
 
-// The whole number from 0 to top that y is exactly. The tests of the range come first, so that the cut is defined: they refuse NaN and the
+// The whole number from 0 to top that y is exactly. The tests of the range come first, so that cutting off a fraction is defined: they refuse NaN and the
 // infinities, and let minus zero pass. A fraction that was cut off makes the comparison fail.
 fn whole_of(y: f64, top: u32) -> Whole
     ensures { λ r. ⌜ r ≡ wholeOf 1 top y ⌝ }
@@ -39,7 +39,7 @@ fn whole_of(y: f64, top: u32) -> Whole
     Whole::Not
 }
 
-// The k from 0 to 256 with x = k / 256. In 64 bits the product is exact, whatever x is.
+// The k from 0 to 256 with x = k / 256. In 64 bits the product of every finite x is exact.
 fn stop(x: f32) -> Whole
     ensures { λ r. ⌜ r ≡ wholeOf 256 256 x ⌝ }
 {
@@ -58,13 +58,13 @@ pub fn decode(dial: Dial) -> Decoded
     ensures { λ r. ⌜ r ≡ decoded dial ⌝ }
 {
     match dial {
-        Dial::Off => Decoded::Set(Setting::Off),
+        Dial::Off => Decoded::Accepted(Setting::Off),
         Dial::Mix(x) => match stop(x) {
-            Whole::Is(k) => Decoded::Set(Setting::Mix(k)),
+            Whole::Is(k) => Decoded::Accepted(Setting::Mix(k)),
             Whole::Not => Decoded::NotAStop,
         },
         Dial::Hold(x) => match intensity(x) {
-            Whole::Is(k) => Decoded::Set(Setting::Hold(k)),
+            Whole::Is(k) => Decoded::Accepted(Setting::Hold(k)),
             Whole::Not => Decoded::NotAnIntensity,
         },
     }
@@ -75,18 +75,18 @@ pub fn refusal_of(decoded: Decoded) -> u32
     ensures { λ r. ⌜ r ≡ refusalOf decoded ⌝ }
 {
     match decoded {
-        Decoded::Set(_) => 0,
+        Decoded::Accepted(_) => 0,
         Decoded::NotAStop => refusal::NOT_A_STOP,
         Decoded::NotAnIntensity => refusal::NOT_AN_INTENSITY,
     }
 }
 
-// The setting, and off for a command that is refused.
+// The setting, and off for a command that is refused: nothing uses it then.
 pub fn setting_of(decoded: Decoded) -> Setting
     ensures { λ r. ⌜ r ≡ settingOf decoded ⌝ }
 {
     match decoded {
-        Decoded::Set(setting) => setting,
+        Decoded::Accepted(setting) => setting,
         Decoded::NotAStop => Setting::Off,
         Decoded::NotAnIntensity => Setting::Off,
     }

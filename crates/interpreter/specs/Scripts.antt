@@ -61,7 +61,7 @@ examples =
     answered ascii "0\n0\nline 5 is no call: no such call\n0\n0\n")
     -- refused calls: the shots are newly opened
     ∷ (ascii "measure 1 6464\nfix 1 1\nfix 1 3\ncolour 2 1 mix 3f800000 - C0\ncolour 2 1 hold nan - -\ncolour 2 1 - -\nmove 3 ffffff 766\nmove 2 ffffff 766\n"
-    answered ascii "2\n5\n4\n6 c0\n6 -\nline 6 is no call: no such dial command\n7 000000\n9 000000\n")
+    answered ascii "2\n5\n4\n6 c0\n6 -\nline 6 is no call: no such dial command: off, mix or hold\n7 000000\n9 000000\n")
     ∷ (ascii "\n\nrepeat 0 open 1\nopen 1 1\n" answered ascii "line 4 is no call: too many words\n")
     ∷ []
 

@@ -1,19 +1,19 @@
 -- The widths of a key under each command of the dial.
 use mathlib.Core.Path.{_≡_, refl, sym, _∙_, subst}
 use Prim.Native.Nat.{ℕ, _≤_}
-use Rattle.pixel.specs.Accuracy.{factor}
 use Rattle.pixel.specs.Move.{InRange, intensity, moved}
 use Rattle.pixel.specs.Paper.{SamplesWithinHalf}
 use Rattle.pixel.specs.declared.Method.{Method}
 use Rattle.pixel.specs.declared.Pixel.{Pixel}
-use Rattle.pixel.proofs.Accurate.{moves-are-accurate}
 use Rattle.pixel.proofs.Paper.{moves-are-within-half}
 use Rattle.settings.specs.Accuracy.{AccurateUnder}
 use Rattle.settings.specs.Setting.{SettingInRange, mixedPixel, writtenUnder}
 use Rattle.settings.specs.declared.Setting.{Setting}
 use Rattle.settings.specs.declared.Setting.the-variants.{Off, Mix, Hold}
-use Rattle.settings.proofs.Mixing.{mixed-full, mixed-accurate}
+use Rattle.settings.proofs.Accurate.{held-accurate}
+use Rattle.settings.proofs.Mixing.{mixed-full, mixed-differences}
 use Rattle.key.specs.Dial.{BesideWidths, WidthsUnder, DialKeepsHue}
+use Rattle.key.proofs.Hue.{differences-keep-hue}
 use Rattle.key.proofs.Widths.{rules-keep-widths, balance-widths, moves-keep-hue}
 
 -- what is beside them: the half step, of a full balance and of a held move
@@ -35,13 +35,11 @@ widths-under setting m f p q ok bytes le is accurate = record {
 }
 
 pub dial-keeps-hue : DialKeepsHue
-dial-keeps-hue m p f bytes le ends =
-    let balance = moves-are-accurate m p f bytes le ends in
+dial-keeps-hue m p f bytes le =
+    let balance = held-accurate f le m p f bytes .channels in
     record {
       off = refl;
-      mix = λ k ok.
-          let mixed = mixed-accurate k ok (factor m (intensity p) f) f p (moved m p f) bytes balance in
-          rules-keep-widths _ _ _ p (mixedPixel k p (moved m p f)) mixed .hueWidth;
+      mix = λ k ok. differences-keep-hue 2 _ p (mixedPixel k p (moved m p f)) (mixed-differences k ok _ p (moved m p f) balance);
       atOne = rw (mixed-full 256 p (moved m p f) refl) (moves-keep-hue m p f bytes le);
       hold = λ v ok. moves-keep-hue m p v bytes ok;
     }

@@ -61,8 +61,8 @@ written-widths w from exact rules =
     (from .entry) exact rules
 
 -- and at amount 1 those of the full balance
-balance-widths : (w : Written) → FromBytes full w → WrittenExact w → WrittenAccurate w → WrittenBalanceWidths w
-balance-widths w from exact rules =
+written-balance : (w : Written) → FromBytes full w → WrittenExact w → WrittenAccurate w → WrittenBalanceWidths w
+written-balance w from exact rules =
     subst (λ (s : Setting). WidthsUnder s (w .method) (w .entry) (w .input) (w .output)) (from .under) (written-widths w from exact rules)
     .beside refl
 
@@ -99,7 +99,7 @@ host-keeps-widths c bytes w m =
     (omega arith)
     (λ e. host-accurate .shapes c e .range)
     bytes w m in
-    balance-widths w from (accurate .exact w m) (accurate .rules w m)
+    written-balance w from (accurate .exact w m) (accurate .rules w m)
 
 pub files-keep-widths : FilesKeepWidths
 files-keep-widths file bytes accepted w m =
@@ -109,5 +109,5 @@ files-keep-widths file bytes accepted w m =
     let made = file-colouring file accepted bytes in
     let member = made .member w m in
     let from = from-bytes 0 full method curve source (colouredUnder full method curve source) (omega arith) (λ e. made .tone .range) (made .bytes) w member in
-    balance-widths w from (coloured-pixels-are-exact full method curve source w member)
+    written-balance w from (coloured-pixels-are-exact full method curve source w member)
     (coloured-pixels-are-accurate full method curve source (omega arith) (made .tone) (made .bytes) w member)

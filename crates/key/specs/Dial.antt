@@ -1,7 +1,7 @@
 -- The widths of a key under each command of the strength dial (document 02, wish 1).
 use mathlib.Core.Path.{_≡_}
 use Prim.Native.Nat.{ℕ, _≤_}
-use Rattle.pixel.specs.Accuracy.{mission, OwnEnds}
+use Rattle.pixel.specs.Accuracy.{mission}
 use Rattle.pixel.specs.Move.{InRange, intensity}
 use Rattle.pixel.specs.Paper.{SamplesWithinHalf}
 use Rattle.pixel.specs.declared.Method.{Method}
@@ -40,4 +40,4 @@ pub record HueUnderDial (m : Method) (f : ℕ) (p : Pixel) : Type 0 where
 
 -- Claim: that holds of every pixel and entry. Proved: proofs/Dial.antt, `dial-keeps-hue`.
 abbrev pub DialKeepsHue : Type 0
-DialKeepsHue = (m : Method) (p : Pixel) (f : ℕ) → InRange p → f ≤ 765 → OwnEnds p f → HueUnderDial m f p
+DialKeepsHue = (m : Method) (p : Pixel) (f : ℕ) → InRange p → f ≤ 765 → HueUnderDial m f p

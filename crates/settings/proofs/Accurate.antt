@@ -44,7 +44,7 @@ end-factor m s v =
     ⊎-elim (λ (e : s ≡ 0). simp (eq-eqb s 0 e)) (λ (e : s ≡ 765). simp (ne-eqb s 0 (λ z. omega arith), eq-eqb s 765 e))
 
 -- held: black and white stay, and every other pixel is moved to the held value
-held-accurate : (v : ℕ) → v ≤ 765 → (m : Method) (p : Pixel) (f : ℕ) → InRange p
+pub held-accurate : (v : ℕ) → v ≤ 765 → (m : Method) (p : Pixel) (f : ℕ) → InRange p
     → PixelAccurate mission (factor m (intensity p) v) (intensityUnder (Hold v) (intensity p) f) p (moved m p v)
 held-accurate v le m p f bytes =
     let s = intensity p in

@@ -6,11 +6,11 @@ use native.Mathlib.Omega.{arith}
 use Rattle.rounding.specs.Fraction.{Fraction, whole, _over_, _⊕_, _⊗_, _⊘_}
 use Rattle.rounding.specs.Near.{near}
 use Rattle.rounding.proofs.Laws.{near-window, near-le, near-mono, near-difference}
-use Rattle.pixel.specs.Accuracy.{mission, PixelAccurate}
-use Rattle.pixel.specs.Move.{Channel, Channel.red, Channel.green, Channel.blue, sample, InRange, intensity}
+use Rattle.pixel.specs.Accuracy.{KeepsDifferences, mission, PixelAccurate}
+use Rattle.pixel.specs.Move.{Channel, Channel.red, Channel.green, Channel.blue, sample, InRange, intensity, moved}
 use Rattle.pixel.specs.declared.Pixel.{Pixel}
 use Rattle.settings.specs.Accuracy.{mixTolerance}
-use Rattle.settings.specs.Setting.{mixed, mixedPixel}
+use Rattle.settings.specs.Setting.{mixed, mixedPixel, AmountOneMoves}
 
 -- the floor of n / 256 and a half is the nearest to n / 256
 mixed-near : (k c c' : ℕ) → mixed k c c' ≡ near (c * (256 - k) + c' * k) 256
@@ -31,6 +31,9 @@ pub mixed-full : (k : ℕ) (p q : Pixel) → k ≡ 256 → mixedPixel k p q ≡ 
 mixed-full k p q e =
     ap (λ (j : ℕ). mixedPixel j p q) e
     ∙ (λ i. record { r = mixed-all (p .r) (q .r) i; g = mixed-all (p .g) (q .g) i; b = mixed-all (p .b) (q .b) i })
+
+pub amount-one-moves : AmountOneMoves
+amount-one-moves m p f = mixed-full 256 p (moved m p f) refl
 
 -- (256 − k + k × factor) / 256
 abbrev pub mixFactor : ℕ → Fraction → Fraction
@@ -85,12 +88,10 @@ module _ (k : ℕ) (le : k ≤ 256) where
       let second = simp (add-mul, mul-assoc, one-mul, mul-comm d k, mul-comm n k) at (mul-le-mul-right k (le-of-lt balances)) in
       omega (arith, mul-add x (j * d) (k * n), mul-add y (j * d) (k * n), mul-le-mul-right d le)
 
-  -- a pixel whose balance keeps the mission's rules keeps those of the mix
-  pub mixed-accurate : (factor : Fraction) (f : ℕ) (p q : Pixel) → InRange p → PixelAccurate mission factor (whole f) p q
-      → PixelAccurate mixTolerance (mixFactor k factor) ((intensity p * (256 - k) + f * k) over 256) p (mixedPixel k p q)
-  mixed-accurate factor f p q bytes balance =
-      let d = balance .channels in
-      let sums = mixed-sum p q f (omega (arith, balance .sum)) (omega (arith, balance .sum)) in
+  -- a pixel whose balance keeps differences to less than a step keeps them, mixed, to less than two
+  pub mixed-differences : (factor : Fraction) (p q : Pixel) → KeepsDifferences 1 factor p q
+      → KeepsDifferences 2 (mixFactor k factor) p (mixedPixel k p q)
+  mixed-differences factor p q d =
       let apart : (a b : Channel) → mixed k (sample p a) (sample q a) * (256 * factor .den) + sample p b * ((256 - k) * factor .den + k * factor .num)
       < mixed k (sample p b) (sample q b) * (256 * factor .den) + sample p a * ((256 - k) * factor .den + k * factor .num) + 2 * (256 * factor .den) =
       λ a b.
@@ -99,14 +100,21 @@ module _ (k : ℕ) (le : k ≤ 256) where
       (d .difference a b .0) in
       rw (over-one k factor)
       (record {
+        denominator = omega (arith, d .denominator);
+        order = λ a b h. rw (sample-mixed k p q a, sample-mixed k p q b) (mixed-order _ _ _ _ h (d .order a b h));
+        difference = λ a b. rw (sample-mixed k p q a, sample-mixed k p q b) (apart a b, apart b a);
+      })
+
+  -- and one whose balance keeps the mission's rules keeps those of the mix
+  pub mixed-accurate : (factor : Fraction) (f : ℕ) (p q : Pixel) → InRange p → PixelAccurate mission factor (whole f) p q
+      → PixelAccurate mixTolerance (mixFactor k factor) ((intensity p * (256 - k) + f * k) over 256) p (mixedPixel k p q)
+  mixed-accurate factor f p q bytes balance =
+      let sums = mixed-sum p q f (omega (arith, balance .sum)) (omega (arith, balance .sum)) in
+      record {
         range = λ a. rw (sample-mixed k p q a) (mixed-range (sample p a) (sample q a) (bytes a) (balance .range a));
         sum = (omega arith, omega arith, omega arith, omega (arith, sums .0), omega (arith, sums .1));
-        channels = record {
-          denominator = omega (arith, d .denominator);
-          order = λ a b h. rw (sample-mixed k p q a, sample-mixed k p q b) (mixed-order _ _ _ _ h (d .order a b h));
-          difference = λ a b. rw (sample-mixed k p q a, sample-mixed k p q b) (apart a b, apart b a);
-        };
-      })
+        channels = mixed-differences factor p q (balance .channels);
+      }
 
 -- at amount 1 the mix's factor and intensity are the balance's
 pub full-accurate : (factor : Fraction) (f : ℕ) (p q : Pixel) → PixelAccurate mission factor (whole f) p q

@@ -43,7 +43,7 @@ intensityUnder (Mix k) s f = (s * (256 - k) + f * k) over 256
 -- so have their own.
 intensityUnder (Hold v) s f = whole (cond (eqb s 0 || eqb s 765) s v)
 
--- What is due beside the rules.
+-- What each command keeps beside the rules.
 abbrev pub BesideRules : Setting → Method → ℕ → Pixel → Pixel → Type 0
 -- "Under off every sample is the source's."
 BesideRules Off m f p q = q ≡ p

@@ -33,13 +33,13 @@ examples =
     ∷ example (Mix 1) YangLee (rgb 10 20 30) 405 (rgb 10 20 31)
     ∷ example (Mix 128) YangLee (rgb 10 20 30) 405 (rgb 58 78 98)
     ∷ example (Mix 256) YangLee (rgb 10 20 30) 405 (rgb 105 135 165)
-    -- the balance is rounded before it is mixed: a third is 0, and so a quarter of 1 is written as 0
+    -- the balance is rounded before it is mixed: 1/3 is 0, and (1 × 64 + 0 × 192 + 128) / 256 is 0 rounded down; with 1/3 it would be 1
     ∷ example (Mix 192) NaikMurthy (rgb 1 1 1) 1 (rgb 0 0 0)
     -- a sum of 510, where (126 × 1 + 514 × 255) / 256 = 512.48 is exact
     ∷ example (Mix 255) YangLee (rgb 21 41 64) 514 (rgb 149 169 192)
     -- a difference of 13, where 11.07 is exact
     ∷ example (Mix 254) YangLee (rgb 67 156 174) 243 (rgb 41 95 108)
-    -- of two pixels with the entry 267, one comes out at 264 and the other at 268
+    -- of two pixels of intensity 2, with the entry 267, one comes out at 264 and the other at 268
     ∷ example (Mix 255) YangLee (rgb 0 1 1) 267 (rgb 6 129 129)
     ∷ example (Mix 255) NaikMurthy (rgb 2 0 0) 267 (rgb 90 89 89)
     -- held, whatever the entry; black and white stay

@@ -1,4 +1,5 @@
-// The settings of the strength dial (document 02, wish 1), in whole numbers, and what they do to a strip's bytes.
+// The settings of the strength dial (document 02, wish 1), in whole numbers, and the bytes of a mix and of off. (Held pixels are coloured by a
+// curve: see `colouring`.)
 ghost use mathlib.Core.Path.{_≡_};
 ghost use Prim.Native.Nat.{_≤_};
 ghost use lib.ListN.{length};
@@ -12,7 +13,7 @@ pub enum Setting {
     Hold(u32),
 }
 
-// Mix at amount 1: the full balance.
+// The k of amount 1, at which a mix is the full balance.
 pub const FULL: u32 = 256;
 
 // The sample c of the source, mixed with its full balance. All of it fits 16 bits.
@@ -30,10 +31,10 @@ pub fn mix_bytes(k: u32, source: &[u8], destination: &mut [u8])
     requires { ⌜ length (now destination) ≡ length (now source) ⌝ }
     ensures { λ _. ⌜ now (destination .exit) ≡ mixedBytes k (now (source .entry)) (now (destination .entry)) ⌝ }
 {
-    let amount = k as u16;
+    let stop = k as u16;
     let mut i: usize = 0;
     while i < source.len() {
-        destination[i] = mix_sample(amount, source[i], destination[i]);
+        destination[i] = mix_sample(stop, source[i], destination[i]);
         i += 1;
     }
 }

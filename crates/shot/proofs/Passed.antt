@@ -13,7 +13,7 @@ use Rattle.pixel.specs.Strip.{isWhole}
 use Rattle.dial.specs.Dial.{decoded, refusalOf}
 use Rattle.measuring.specs.Histogram.{pixelLimit}
 use Rattle.curve.specs.Choices.{isChoice}
-use Rattle.shot.specs.Shot.{measureChecks, measured, fixChecks, fixedWith, ColourRequest, colourChecks, coloured}
+use Rattle.shot.specs.Shot.{measureChecks, measured, fixChecks, fixedWith, ColourRequest, colourChecksOf, coloured}
 use Rattle.shot.specs.declared.Shot.{Shot}
 
 pub record MeasuringAccepted (x : Shot) (strip : List ℕ) : Type 0 where
@@ -47,11 +47,7 @@ pub colour-passed : (x : Shot) (q : ColourRequest) → coloured x q .answer .num
 unfolding coloured
 colour-passed x q e =
     let (isFixed, (known, (whole, (same, _)))) =
-    none-applies
-    (colourChecks (x .fixed) (isMethod (q .method)) (isWhole (length (q .source))) (eqb (length (q .destination)) (length (q .source)))
-    (not (eqb (refusalOf (decoded (q .dial))) 17)) (not (eqb (refusalOf (decoded (q .dial))) 18)))
-    refl
-    e in
+    none-applies (colourChecksOf x q) refl e in
     record {
       isFixed = not-false _ isFixed;
       known = not-false _ known;

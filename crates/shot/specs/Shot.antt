@@ -99,13 +99,12 @@ colouringOutcome number x q =
           ifAccepted number (colouredUnder (settingOf (decoded (q .dial))) (methodOf (q .method)) (x .curve) (q .source)) (q .destination);
     }
 
--- The number of a colouring.
-abbrev pub colourNumber : Shot → ColourRequest → ℕ
-colourNumber x q =
-    firstOf
-    (colourChecks (x .fixed) (isMethod (q .method)) (isWhole (length (q .source))) (eqb (length (q .destination)) (length (q .source)))
-    (not (eqb (refusalOf (decoded (q .dial))) 17)) (not (eqb (refusalOf (decoded (q .dial))) 18)))
+-- The checks of a colouring.
+abbrev pub colourChecksOf : Shot → ColourRequest → List Check
+colourChecksOf x q =
+    colourChecks (x .fixed) (isMethod (q .method)) (isWhole (length (q .source))) (eqb (length (q .destination)) (length (q .source)))
+    (not (eqb (refusalOf (decoded (q .dial))) 17)) (not (eqb (refusalOf (decoded (q .dial))) 18))
 
 -- What colouring leaves.
 unfoldable pub coloured : Shot → ColourRequest → Outcome
-coloured x q = colouringOutcome (colourNumber x q) x q
+coloured x q = colouringOutcome (firstOf (colourChecksOf x q)) x q

@@ -18,7 +18,7 @@ use Rattle.dial.proofs.Exact.{full-balance}
 use Rattle.colouring.specs.Colouring.{colouredUnder}
 use Rattle.colouring.specs.Written.{Written, pixelsWritten, colouredPixels}
 use Rattle.colouring.proofs.Strips.{amount-one-is-full-balance}
-use Rattle.colouring.proofs.Written.{coloured-pixels-are-balanced}
+use Rattle.colouring.proofs.Written.{Balanced, coloured-pixels-are-balanced, balances-keep-order, one-curve-keeps-order}
 use Rattle.book.specs.Book.{Call, Call.measuring, Call.fixing, Call.colouring}
 use Rattle.book.specs.Run.{trace, number, WellFormed}
 use Rattle.shot.specs.Shot.{opened, measured, fixedWith, ColourRequest, Outcome, coloured}
@@ -28,7 +28,7 @@ use Rattle.netpbm.specs.Header.{headerOf, valuesOf, headerText}
 use Rattle.netpbm.specs.declared.Header.{Header}
 use Rattle.netpbm.specs.declared.Reading.the-variants.{Accepted}
 use Rattle.netpbm.proofs.Grammar.{written-is-read}
-use Rattle.still.specs.Agreement.{callsOf, bytesLeft, FollowsShot, FilesFollowShots, pixelsOfFile, FilesRoundThePaper, AnswersAreFiles}
+use Rattle.still.specs.Agreement.{callsOf, bytesLeft, FollowsShot, FilesFollowShots, pixelsOfFile, FilesRoundThePaper, FilesAreAccurate, AnswersAreFiles}
 use Rattle.still.specs.Still.{fileChoice, fileMethod, ownCurve, balanced, picture, samplesDue, IsAccepted, fileHeader, fileSamples, answer}
 use Rattle.still.proofs.Answers.{accepted-fits, accepted-shot, accepted-answer, accepted-size, is-accepted}
 
@@ -140,10 +140,25 @@ module _ (file : List ℕ) (accepted : IsAccepted file) where
             m;
       }
 
-pub files-round-the-paper : FilesRoundThePaper
-files-round-the-paper file bytes accepted w m =
+-- every one of its pixels is one of a full balance
+file-balanced : (file : List ℕ) → Bytes file → IsAccepted file → (w : Written) → w among pixelsOfFile file → Balanced w
+file-balanced file bytes accepted w m =
     let made = file-colouring file accepted bytes in
-    coloured-pixels-are-balanced (methodOf fileMethod) (ownCurve (fileSamples file)) (fileSamples file) (made .tone) (made .bytes) w (made .member w m) .rounded
+    coloured-pixels-are-balanced (methodOf fileMethod) (ownCurve (fileSamples file)) (fileSamples file) (made .tone) (made .bytes) w
+    (made .member w m)
+
+pub files-round-the-paper : FilesRoundThePaper
+files-round-the-paper file bytes accepted w m = file-balanced file bytes accepted w m .rounded
+
+pub files-are-accurate : FilesAreAccurate
+files-are-accurate = record {
+  rules = λ file bytes accepted w m. file-balanced file bytes accepted w m .rules;
+  order = λ file bytes accepted v w mv mw.
+      let made = file-colouring file accepted bytes in
+      balances-keep-order (file-balanced file bytes accepted v mv) (file-balanced file bytes accepted w mw)
+      (one-curve-keeps-order full full (methodOf fileMethod) (methodOf fileMethod) (ownCurve (fileSamples file)) (fileSamples file)
+      (fileSamples file) (omega arith) (omega arith) (made .tone) (made .bytes) (made .bytes) v w (made .member v mv) (made .member w mw));
+}
 
 pub files-follow-shots : FilesFollowShots
 files-follow-shots file bytes accepted destination same = follows-shot file accepted bytes destination same

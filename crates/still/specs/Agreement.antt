@@ -9,7 +9,7 @@ use Rattle.pixel.specs.Methods.{methodOf}
 use Rattle.pixel.specs.Strip.{Bytes}
 use Rattle.settings.specs.Setting.{full}
 use Rattle.dial.specs.Dial.{fullBalance}
-use Rattle.colouring.specs.Written.{Written, BalanceRounded, pixelsWritten}
+use Rattle.colouring.specs.Written.{Written, BalanceAccurate, BalanceRounded, AtMostTwoBelow, pixelsWritten}
 use Rattle.book.specs.Accuracy.{Accurate}
 use Rattle.book.specs.Book.{Call, Call.measuring, Call.fixing, Call.colouring}
 use Rattle.book.specs.Run.{Step, trace, number}
@@ -56,6 +56,13 @@ pixelsOfFile file =
 abbrev pub FilesRoundThePaper : Type 0
 FilesRoundThePaper =
     (file : List ℕ) → Bytes file → IsAccepted file → (w : Written) → w among pixelsOfFile file → BalanceRounded w
+
+-- Claim: the pixels written for an accepted file keep the mission's own rules, by the factor and the entry themselves, and any two of them
+-- its order. Proved: proofs/Agreement.antt, `files-are-accurate`.
+pub record FilesAreAccurate : Type 0 where
+  pub rules : (file : List ℕ) → Bytes file → IsAccepted file → (w : Written) → w among pixelsOfFile file → BalanceAccurate w
+  pub order : (file : List ℕ) → Bytes file → IsAccepted file → (v w : Written) → v among pixelsOfFile file → w among pixelsOfFile file
+      → AtMostTwoBelow v w
 
 -- Claim: what is written for an accepted file is an accepted file of the same size. Proved: proofs/Agreement.antt, `answers-are-files`.
 pub record AnswersAreFiles : Type 0 where

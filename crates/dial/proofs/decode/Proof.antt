@@ -1,7 +1,7 @@
 -- `dial::decode` meets its contract: each arm knows the command, and what `stop` or `intensity` found.
 use mathlib.Core.Path.{ap, sym, _∙_}
 use borrow.Author.Needs.{needs}
-use Rattle.dial.specs.Dial.{mixed, held, decoded}
+use Rattle.dial.specs.Dial.{asMix, asHold, decoded}
 use Rattle.dial.proofs.decode.Statement.{statement}
 use Rattle.dial.proofs.decode.Tie as tie
 
@@ -38,22 +38,22 @@ returns c = sym (ap decoded (c .enum-told .given .1))
 returns-2 : tie.Need-returns-2
 returns-2 c =
     let called = c .before .before .before in
-    sym (ap decoded (called .before .before .dial .given .1) ∙ ap mixed (sym (called .stop .ensures) ∙ c .before .k .given .1))
+    sym (ap decoded (called .before .before .dial .given .1) ∙ ap asMix (sym (called .stop .ensures) ∙ c .before .k .given .1))
 
 returns-3 : tie.Need-returns-3
 returns-3 c =
     let called = c .before .before in
-    sym (ap decoded (called .before .before .dial .given .1) ∙ ap mixed (sym (called .stop .ensures) ∙ c .enum-told2 .given .1))
+    sym (ap decoded (called .before .before .dial .given .1) ∙ ap asMix (sym (called .stop .ensures) ∙ c .enum-told2 .given .1))
 
 returns-4 : tie.Need-returns-4
 returns-4 c =
     let called = c .before .before .before in
-    sym (ap decoded (called .before .before .dial2 .given .1) ∙ ap held (sym (called .intensity .ensures) ∙ c .before .k2 .given .1))
+    sym (ap decoded (called .before .before .dial2 .given .1) ∙ ap asHold (sym (called .intensity .ensures) ∙ c .before .k2 .given .1))
 
 returns-5 : tie.Need-returns-5
 returns-5 c =
     let called = c .before .before in
-    sym (ap decoded (called .before .before .dial2 .given .1) ∙ ap held (sym (called .intensity .ensures) ∙ c .enum-told3 .given .1))
+    sym (ap decoded (called .before .before .dial2 .given .1) ∙ ap asHold (sym (called .intensity .ensures) ∙ c .enum-told3 .given .1))
 
 pub decode-spec : {M : Type 1} → statement M
 decode-spec =

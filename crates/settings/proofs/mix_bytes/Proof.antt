@@ -7,13 +7,13 @@ use Rattle.settings.proofs.mix_bytes.Statement.{statement}
 use Rattle.settings.proofs.mix_bytes.Tie as tie
 
 abbrev Inv-loop : tie.InvT-loop
-Inv-loop k source destination₀ amount i₀ destination i = MixedTo k source destination₀ destination i
+Inv-loop k source destination₀ stop i₀ destination i = MixedTo k source destination₀ destination i
 
 abbrev μ-loop : tie.MeasureT-loop
-μ-loop k source destination₀ amount i₀ destination i = length source - i
+μ-loop k source destination₀ stop i₀ destination i = length source - i
 
-cast-amount : tie.Need-cast-amount Inv-loop μ-loop
-cast-amount c = search needs
+cast-stop : tie.Need-cast-stop Inv-loop μ-loop
+cast-stop c = search needs
 
 loop-holds : tie.Need-loop-holds Inv-loop μ-loop
 loop-holds c = mixed-start _ _ _ (c .before .before .pre .1)
@@ -51,7 +51,7 @@ mix-bytes-spec =
     (tie.spec
     Inv-loop
     μ-loop
-    cast-amount
+    cast-stop
     loop-holds
     shared-slice-read-mix-sample
     slice-read-mix-sample

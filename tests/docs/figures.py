@@ -131,9 +131,13 @@ def tolerance_sentences():
 def mix_sentences(steps, over, under, below, degrees):
     """What the pages say of the tolerance and the hue bound of a mix."""
     yield RULES, (
-        f"| mix, k below 256 | at most {over} / {under} from (s × (256 − k) + f × k) / 256 | (256 − k + k × factor) / 256 | {steps} | {below} |"
+        f"| mix, k below 256 | at most {over} / {under} from (s × (256 − k) + f × k) / 256 | (256 − k + k × φ) / 256 | {steps} | {below} |"
     )
     yield PROMISES, f"the intensity is within {over} / {under}, a difference less than {steps} steps off, the order at most {below} below;"
+    yield ACCURACY, (
+        f"| mix, amount below 1 | {degrees * steps}° / written chroma | less than {steps} code values from the mixed factor times the source's "
+        f"| at most {over / under:g} from the mixed intensity | comes out at most {below} darker |"
+    )
     yield README, f"a mix of source and balance keeps hue to less than {degrees * steps}° divided by the written chroma"
 
 

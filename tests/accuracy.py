@@ -4,8 +4,8 @@
     python3 -B tests/accuracy.py print    prints the tables and sentences that the document has to have
 
 The skin tone's written pixels are read from what bin/balance writes for samples/portrait.ppm, and bin/replay under the dial; all else is
-computed, exactly. Of the search under a mix only some amounts are run here, and docs/figures/mix.csv is held against them. Beforehand the
-script tries itself: with any one number of the dial's section changed, the document has to be found wrong.
+computed, exactly. The search under a mix is run here for some amounts only, and docs/figures/mix.csv is compared with that. The script also
+tries itself: with any one number of the dial's section changed, the document has to be found wrong.
 """
 
 import math
@@ -322,7 +322,7 @@ def mix_row_faults(row, steps):
     """Whether a listed move is one, with the part that it says, below the bound."""
     at, method, size, of, *pixel, target, k = row[:9]
     if size == 0:
-        return [] if row[1:] == [0, 0, 1] + 8 * [0] else [f"mix.csv has a move of no size: {row}"]
+        return [] if row[1:] == [0, 0, 1] + 8 * [0] else [f"a move of no size: {row}"]
     low, mid, high = pixel
     written = mixed(k, pixel, moved(method, tuple(pixel), target))
     low2, mid2, high2 = written
@@ -330,18 +330,16 @@ def mix_row_faults(row, steps):
     found = found and size == abs((mid2 - low2) * (high - low) - (mid - low) * (high2 - low2))
     # and by the hues themselves
     found = found and apart(written, pixel) == mix.degrees(row) < steps * Fraction(60, at)
-    return [] if found else [f"mix.csv has no such move, or one not below the bound: {row}"]
+    return [] if found else [f"no such move under a mix, or one not below the bound: {row}"]
 
 
 def mix_faults(rows, steps):
-    """What of mix.csv is not as a search of some amounts finds it: every move of a listed amount, or one as bad, and none worse."""
-    for row in rows:
-        yield from mix_row_faults(row, steps)
-    amounts = sorted({row[8] for row in mix.in_table(rows)}, reverse=True)
-    found, above = mix.searches((0, amounts), (1, HALVINGS))
+    """What of mix.csv is not a move, or not as wide as the widest that a search finds at the amounts where they lie."""
+    found, above = mix.searches((0, mix.WORST), (1, HALVINGS))
     for row, other in zip(rows, found):
+        yield from mix_row_faults(row, steps)
         yield from mix_row_faults(other, steps)
-        if mix.part(other) > mix.part(row) or mix.part(other) < mix.part(row) and row[8] in amounts:
+        if mix.part(other) != mix.part(row):
             yield f"mix.csv has {row}, and the search found {other}"
     yield from (f"a move of more than 60° / chroma: {row}" for row in above if row[1])
 

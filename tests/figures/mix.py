@@ -1,7 +1,8 @@
 """How far hue moves under a mix: the worst move for each written chroma, at any amount between 0 and 1.
 
 docs/figures/mix.csv has them. It is what worst_mix.c prints; the command at its head searches all amounts and takes about a minute. Here it
-is compiled with cc, beside the exact arithmetic of tests/host/, and run for some amounts. tests/accuracy.py compares the file with that.
+is compiled with cc, beside the exact arithmetic of tests/host/, and run for the amounts at which these moves lie. tests/accuracy.py compares
+the file with that.
 """
 
 import pathlib
@@ -17,6 +18,8 @@ COLUMNS = "written chroma,method,part of 60 degrees / chroma,of,min,mid,max,targ
 # k of k / 256; at 0 nothing moves, and 256 is the full balance
 AMOUNTS = range(1, 256)
 ALL_MOVES = MOVES * len(AMOUNTS)
+# those at which the worst moves lie, and at which the gate repeats the search: seven seconds
+WORST = *range(255, 245, -1), 244, 243, 241, 239, 237, 234, 230, 223, 213
 
 
 def rows_of(text):
@@ -39,11 +42,12 @@ def searches(*wanted):
         program = pathlib.Path(room) / "worst_mix"
         subprocess.run(["cc", "-O3", "-I", EXACT, "-o", program, HERE / "worst_mix.c", EXACT / "exact.c"], check=True)
         words = [[str(word) for word in (floor, *amounts)] for floor, amounts in wanted]
-        runs = [subprocess.Popen([program, *run], stdout=subprocess.PIPE, text=True) for run in words]
-        results = [run.communicate()[0] for run in runs]
-    if any(run.returncode for run in runs):
-        sys.exit("the search under a mix failed")
-    return [rows_of(result) for result in results]
+        runs = [subprocess.Popen([program, *run], stdout=subprocess.PIPE, stderr=subprocess.PIPE, text=True) for run in words]
+        results = [run.communicate() for run in runs]
+    due = [MOVES * len(amounts) for _, amounts in wanted]
+    if any(run.returncode for run in runs) or [int(said) for _, said in results] != due:
+        sys.exit("the search under a mix was not over every move")
+    return [rows_of(found) for found, _ in results]
 
 
 def part(row):

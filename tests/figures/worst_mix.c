@@ -18,7 +18,8 @@
    1 the size is n or m, at most max - min - 1, so that only large chromas can be worse, which few samples have so near to each other.
 
    Prints the columns, then one line for each written chroma from 1 to 255: the chroma, the method, the largest part as size and max - min, and a
-   move that uses it. Where none is above FLOOR, the part is FLOOR / 1 and the move is all zeros. */
+   move that uses it. Where none is above FLOOR, the part is FLOOR / 1 and the move is all zeros. Says on standard error how many moves the
+   search was over, those left out among them. */
 
 #include <stdio.h>
 #include <stdlib.h>
@@ -42,11 +43,22 @@ static int smallest[SAMPLES];
 struct table {
     int method, s, target, amount;
     int low, high;         /* the least and the greatest sample of such a pixel */
+    int pixels;            /* how many there are that are not grey */
     int over, of;          /* the factor of the full balance, over / of */
     int full[SAMPLES];     /* each sample at the full balance */
     int to[SAMPLES];       /* as the mix writes it */
     int e[SAMPLES], scale; /* scale * to[c], less a multiple of c */
 };
+
+static int count_pixels(const struct table *t)
+{
+    int pixels = 0;
+    for (int min = t->low; 3 * min < t->s; min++) {
+        int first = t->s - min - 255 > min ? t->s - min - 255 : min, last = (t->s - min) / 2;
+        pixels += last - first + 1;
+    }
+    return pixels;
+}
 
 /* the full balance: the other two samples of a pixel do not matter, so any two serve; the samples stay in order, and so do mixed ones */
 static void fill(struct table *t)
@@ -175,15 +187,18 @@ int main(int count, char **words)
     for (int i = 0; i < SAMPLES; i++)
         worst[i] = (struct worst){.size = atoi(words[1]), .of = 1};
     find_smallest();
+    int64_t moves = 0;
     for (int s = 1; s < EXACT_WHITE; s++)
         for (int method = 1; method <= 2; method++)
             for (int target = 0; target < EXACT_SUMS; target++) {
                 struct table t = {.method = method, .s = s, .target = target, .low = s > 510 ? s - 510 : 0, .high = s < 255 ? s : 255};
+                t.pixels = count_pixels(&t);
                 fill(&t);
                 set_factor(&t);
-                for (int i = 2; i < count; i++)
+                for (int i = 2; i < count; i++, moves += t.pixels)
                     try_amount(&t, atoi(words[i]));
             }
+    fprintf(stderr, "%lld\n", (long long)moves);
     print();
     return 0;
 }

@@ -29,6 +29,7 @@ stop x = exactBelow 256 257 x
 unfoldable pub heldIntensity : Float → Option ℕ
 heldIntensity x = exactBelow 1 766 x
 
+-- Whether there is one.
 abbrev pub isThere : Option ℕ → Bool
 isThere none = false
 isThere (some k) = true

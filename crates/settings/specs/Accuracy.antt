@@ -63,8 +63,8 @@ SettingsAreAccurate =
     (setting : Setting) (m : Method) (p : Pixel) (f : ℕ) → SettingInRange setting → InRange p → f ≤ 765 → OwnEnds p f
     → AccurateUnder setting m f p (writtenUnder setting m f p)
 
--- Claim: of two pixels written under one setting, by whichever methods, the one whose input intensity is no smaller, and its entry, has an
--- intensity at most so much below the other's as the setting allows. Proved: proofs/Order.antt, `settings-keep-order`.
+-- Claim: of two pixels written under one setting, by whichever methods, the one whose input intensity and entry are no smaller has an
+-- intensity at most so much below the other's as the setting's tolerance says. Proved: proofs/Order.antt, `settings-keep-order`.
 abbrev pub SettingsKeepOrder : Type 0
 SettingsKeepOrder =
     (setting : Setting) (m n : Method) (p p' q q' : Pixel) (f f' : ℕ) → SettingInRange setting → intensity p ≤ intensity p'

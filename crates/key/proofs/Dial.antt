@@ -1,7 +1,7 @@
 -- The widths of a key under each command of the dial.
 use mathlib.Core.Path.{_≡_, refl, sym, _∙_, subst}
 use Prim.Native.Nat.{ℕ, _≤_}
-use Rattle.pixel.specs.Move.{InRange, intensity, moved}
+use Rattle.pixel.specs.Move.{InRange, moved}
 use Rattle.pixel.specs.Paper.{SamplesWithinHalf}
 use Rattle.pixel.specs.declared.Method.{Method}
 use Rattle.pixel.specs.declared.Pixel.{Pixel}

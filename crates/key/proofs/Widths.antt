@@ -1,18 +1,13 @@
 -- A moved pixel keeps the widths of a key: all but the half step follow from the rules of demand 3.
-use mathlib.Core.Path.{_≡_, sym, subst}
-use mathlib.Core.Logic.{_⊎_, inl, inr}
-use Prim.Native.Nat.{ℕ, _≤_}
-use native.Mathlib.Omega.{arith}
-use Rattle.rounding.specs.Fraction.{Fraction, whole, _over_}
-use Rattle.tables.proofs.Cases.{either}
-use Rattle.pixel.specs.Accuracy.{factor, KeepsDifferences, mission, PixelAccurate, OwnEnds}
-use Rattle.pixel.specs.Move.{InRange, intensity, moved}
+use Prim.Native.Nat.{ℕ}
+use Rattle.rounding.specs.Fraction.{whole}
+use Rattle.pixel.specs.Accuracy.{factor, mission, PixelAccurate}
+use Rattle.pixel.specs.Move.{intensity, moved}
 use Rattle.pixel.specs.Paper.{SamplesWithinHalf}
 use Rattle.pixel.specs.declared.Method.{Method}
 use Rattle.pixel.specs.declared.Pixel.{Pixel}
-use Rattle.pixel.proofs.Accurate.{moves-are-accurate, ends-stay}
+use Rattle.pixel.proofs.Accurate.{moves-are-accurate}
 use Rattle.pixel.proofs.Paper.{moves-are-within-half}
-use Rattle.pixel.proofs.Strips.{intensity-in-range}
 use Rattle.settings.proofs.Accurate.{held-accurate}
 use Rattle.key.specs.Widths.{RulesKeepWidths, BalanceWidths, MovesKeepHue, MovesKeepWidths}
 use Rattle.key.proofs.Chroma.{grey-stays, keeps-chroma}

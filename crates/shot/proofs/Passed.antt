@@ -1,6 +1,6 @@
 -- What an accepted call has passed.
 use mathlib.Core.Path.{_≡_, refl}
-use mathlib.Core.Bool.{true, not}
+use mathlib.Core.Bool.{true}
 use mathlib.Core.List.{List}
 use Prim.Native.Nat.{ℕ, _+_, _/_, _≤_, _<_}
 use native.Mathlib.Omega.{arith}
@@ -10,7 +10,6 @@ use lib.ListN.{length}
 use Rattle.refusal.proofs.Laws.{none-applies}
 use Rattle.pixel.specs.Methods.{isMethod}
 use Rattle.pixel.specs.Strip.{isWhole}
-use Rattle.dial.specs.Dial.{decoded, refusalOf}
 use Rattle.measuring.specs.Histogram.{pixelLimit}
 use Rattle.curve.specs.Choices.{isChoice}
 use Rattle.shot.specs.Shot.{measureChecks, measured, fixChecks, fixedWith, ColourRequest, colourChecksOf, coloured}

@@ -149,9 +149,9 @@ struct FlatShot {
     tones: Tones,
 }
 
-// A shot of three pixels of intensity 300, fixed by a choice, colours a pixel of each intensity by method 1 at the full balance. As they are filled, those
-// of intensity 1 to 510 come out black for entry 0 only, and those of intensity 255 to 764 white for entry 765 only: so the strip
-// shows the curve, but for its ends, since black and white stay.
+// A shot of three pixels of intensity 300, fixed by a choice, colours a pixel of each intensity by method 1 at the full balance. As
+// they are filled, those of intensity 1 to 510 come out black for entry 0 only, and those of intensity 255 to 764 white for entry 765
+// only: so the strip shows the curve, but for its ends, since black and white stay.
 fn flat_shot(choice: u32) -> FlatShot {
     let measured = measure(new_shot(), &[100, 100, 100, 50, 100, 150, 255, 45, 0]);
     let shot = measured.shot;

@@ -17,8 +17,8 @@ import sys
 TOKEN = re.compile(r"[A-Za-z_][A-Za-z0-9_'₀-₉-]*[A-Za-z0-9_'₀-₉]|[A-Za-z_]")
 DECLARED = re.compile(r"^\s*(?:(?:pub|abbrev|unfoldable)\s+)*((?:[A-Za-z_][\w'₀-₉-]*\s+)*[A-Za-z_][\w'₀-₉-]*)\s+:\s")
 KEYWORDS = {"pub", "abbrev", "unfoldable", "data", "record", "module", "let"}
-# A function's own proof: what is declared there has the names of Rattle's goals.
-PROOF_OF_A_FUNCTION = {"Proof.antt", "Answers.antt", "Invariants.antt"}
+# Where definitions and lemmas stand. Below proofs/ a folder is a function's own proof: what is declared there has the names of goals.
+FOLDERS = {"specs", "proofs"}
 # An operator's name has a circle on either side where it is declared, and none where it is used.
 OPERATORS = {"upTo": "up_to"}
 # A lemma that would fall together with a field of specs/.
@@ -46,7 +46,7 @@ def snake(name):
 def declared(top):
     names = set()
     for path in files(os.path.join(top, "crates"), ".antt"):
-        if os.path.basename(path) in PROOF_OF_A_FUNCTION:
+        if os.path.basename(os.path.dirname(path)) not in FOLDERS:
             continue
         for line in read(path).split("\n"):
             m = None if line.lstrip().startswith("--") else DECLARED.match(line)

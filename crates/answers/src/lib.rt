@@ -1,7 +1,7 @@
 // The text of what the program `replay` answers.
 ghost use Rattle.std.specs.Prelude.{◌+◌, ◌≤◌, length};
 ghost use Rattle.text.specs.Text.{Writes};
-ghost use Rattle.answers.specs.Answers.{byteLimit, textLimit, numberText, stripText, bytesText, reasonText, faultText, WritesAnswer};
+ghost use Rattle.answers.specs.Answers.{byte_limit, text_limit, number_text, strip_text, bytes_text, reason_text, fault_text, WritesAnswer};
 
 use words::Fault;
 
@@ -13,8 +13,8 @@ pub const TEXT_LIMIT: usize = script::LINE_LIMIT + 64;
 
 // Writes a number and a line feed at the start of the output, and hands back how many bytes that are.
 pub fn write_number(number: u32, output: &mut [u8]) -> usize
-    requires { textLimit ≤ length output.old }
-    ensures { WritesAnswer (numberText number) output.old result output.new }
+    requires { text_limit ≤ length output.old }
+    ensures { WritesAnswer (number_text number) output.old result output.new }
 {
     let end = text::write_decimal(number as u64, output, 0);
     text::write_text(b"\n", output, end)
@@ -22,8 +22,8 @@ pub fn write_number(number: u32, output: &mut [u8]) -> usize
 
 // Writes bytes as a script has them: in hexadecimal digits, or - for none.
 fn write_strip(bytes: &[u8], output: &mut [u8], place: usize) -> usize
-    requires { place + length (stripText bytes.now) ≤ length output.old }
-    ensures { Writes place (stripText bytes.now) output.old result output.new }
+    requires { place + length (strip_text bytes.now) ≤ length output.old }
+    ensures { Writes place (strip_text bytes.now) output.old result output.new }
 {
     if bytes.len() == 0 {
         return text::write_text(b"-", output, place);
@@ -33,9 +33,9 @@ fn write_strip(bytes: &[u8], output: &mut [u8], place: usize) -> usize
 
 // Writes a number, bytes and a line feed at the start of the output, and hands back how many bytes that are.
 pub fn write_bytes(number: u32, bytes: &[u8], output: &mut [u8]) -> usize
-    requires bytes_len_bound { length bytes.now ≤ byteLimit }
-    requires text_limit_in_bounds { textLimit ≤ length output.old }
-    ensures { WritesAnswer (bytesText number bytes.now) output.old result output.new }
+    requires bytes_len_bound { length bytes.now ≤ byte_limit }
+    requires text_limit_in_bounds { text_limit ≤ length output.old }
+    ensures { WritesAnswer (bytes_text number bytes.now) output.old result output.new }
 {
     let end = text::write_decimal(number as u64, output, 0);
     let end = text::write_text(b" ", output, end);
@@ -45,8 +45,8 @@ pub fn write_bytes(number: u32, bytes: &[u8], output: &mut [u8]) -> usize
 
 // Writes why a line is no call into the output at the place.
 fn write_reason(fault: Fault, output: &mut [u8], place: usize) -> usize
-    requires { place + length (reasonText fault) ≤ length output.old }
-    ensures { Writes place (reasonText fault) output.old result output.new }
+    requires { place + length (reason_text fault) ≤ length output.old }
+    ensures { Writes place (reason_text fault) output.old result output.new }
 {
     match fault {
         Fault::TooLong => text::write_text(b"longer than 65536 bytes", output, place),
@@ -72,8 +72,8 @@ fn write_reason(fault: Fault, output: &mut [u8], place: usize) -> usize
 
 // Writes the answer to a line that is no call at the start of the output, and hands back how many bytes it has.
 pub fn write_fault(fault: Fault, line: u64, output: &mut [u8]) -> usize
-    requires { textLimit ≤ length output.old }
-    ensures { WritesAnswer (faultText fault line) output.old result output.new }
+    requires { text_limit ≤ length output.old }
+    ensures { WritesAnswer (fault_text fault line) output.old result output.new }
 {
     let end = text::write_text(b"line ", output, 0);
     let end = text::write_decimal(line, output, end);

@@ -10,7 +10,7 @@ use Rattle.text.proofs.Runs.{writes_room, writes_front}
 use Rattle.hexadecimal.specs.Hexadecimal.{decoded}
 use Rattle.hexadecimal.proofs.Hexadecimal.{length_decoded}
 use Rattle.script.specs.Script.{line_limit}
-use Rattle.answers.specs.Answers.{byteLimit, numberText}
+use Rattle.answers.specs.Answers.{byte_limit, number_text}
 use Rattle.shot.specs.Shot.{Outcome}
 use Rattle.shot.specs.declared.Answer.{Answer}
 use Rattle.shot.specs.declared.Shot.{Shot}
@@ -27,13 +27,13 @@ replied {before = before} {after = after} {answered = answered} same answers =
     subst (λ (r : Reply). LeavesReply r before answered after) same answers
 
 -- a call on the shot with its number, of which the number alone is told
-pub number_reply : (shots : Shots) (number : ℕ) (call : Call) → ((o : Outcome) → call_text call o ≡ numberText o.answer.number)
+pub number_reply : (shots : Shots) (number : ℕ) (call : Call) → ((o : Outcome) → call_text call o ≡ number_text o.answer.number)
     → {shot : Shot} {answer : Answer}
     → answer ≡ (step shot call).answer
     → shot ≡ shot_of shots number
-    → kept shots number answer (numberText answer.number) ≡ on_shot shots number call
+    → kept shots number answer (number_text answer.number) ≡ on_shot shots number call
 number_reply shots number call told called here =
-    ap (λ (a : Answer). kept shots number a (numberText a.number)) (called ∙ ap (λ (x : Shot). (step x call).answer) here)
+    ap (λ (a : Answer). kept shots number a (number_text a.number)) (called ∙ ap (λ (x : Shot). (step x call).answer) here)
     ∙ ap (kept shots number (step (shot_of shots number) call).answer) (sym (told (step (shot_of shots number) call)))
 
 -- Digits decoded into a run that has room for their bytes: these are the run's front.
@@ -45,5 +45,5 @@ module _ (digits : List ℕ) {run output : List ℕ} {end : ℕ} (wrote : Writes
   decoded_length = sym (length-take-le end output decoded_within)
 
   -- what a line brings is no more than an answer can hold
-  pub decoded_short : length digits ≤ line_limit → length (take end output) ≤ byteLimit
+  pub decoded_short : length digits ≤ line_limit → length (take end output) ≤ byte_limit
   decoded_short few = omega (arith, ap length (writes_front wrote), length_decoded digits)

@@ -2,7 +2,7 @@
 use Rattle.std.specs.Prelude.{◌≡◌, cond, List, [], ◌∷◌, ℕ, eqb}
 use Rattle.hexadecimal.specs.Hexadecimal.{decoded}
 use Rattle.words.specs.Words.{word_in}
-use Rattle.answers.specs.Answers.{numberText, bytesText, WritesAnswer}
+use Rattle.answers.specs.Answers.{number_text, bytes_text, WritesAnswer}
 use Rattle.script.specs.declared.Command.{Command}
 use Rattle.script.specs.declared.Command.TheVariants.{Open, Measure, Fix, Colour, Move}
 use Rattle.pixel.specs.MoveOne.{moved_one}
@@ -63,14 +63,14 @@ request_in line (Move method pixel target) = moving method (pixel_from (decoded 
 
 -- The text of a call's answer: its number, and of a colouring also the bytes that it leaves.
 abbrev pub call_text : Call → Outcome → List ℕ
-call_text opening outcome = numberText outcome.answer.number
-call_text (measuring strip) outcome = numberText outcome.answer.number
-call_text (fixing choice) outcome = numberText outcome.answer.number
-call_text (colouring request) outcome = bytesText outcome.answer.number outcome.bytes
+call_text opening outcome = number_text outcome.answer.number
+call_text (measuring strip) outcome = number_text outcome.answer.number
+call_text (fixing choice) outcome = number_text outcome.answer.number
+call_text (colouring request) outcome = bytes_text outcome.answer.number outcome.bytes
 
 -- The text of a single move's answer: its number, and the pixel.
 abbrev pub moved_text : Moved → List ℕ
-moved_text moved = bytesText moved.number (moved.pixel.r ∷ moved.pixel.g ∷ moved.pixel.b ∷ [])
+moved_text moved = bytes_text moved.number (moved.pixel.r ∷ moved.pixel.g ∷ moved.pixel.b ∷ [])
 
 -- What a command leaves: the shots, and the text of its answer.
 pub record Reply : Type 0 where

@@ -5,7 +5,7 @@ use Rattle.script.specs.Script.{line_of}
 use Rattle.script.specs.declared.Command.{Command}
 use Rattle.script.specs.declared.ScriptLine.{ScriptLine}
 use Rattle.script.specs.declared.ScriptLine.TheVariants.{Blank, Calls, NoCall}
-use Rattle.answers.specs.Answers.{faultText}
+use Rattle.answers.specs.Answers.{fault_text}
 use Rattle.interpreter.specs.Interpreter.{new_shots, Reply, answer_to}
 use Rattle.interpreter.specs.declared.Shots.{Shots}
 
@@ -26,7 +26,7 @@ replies_to (suc times) line command shots =
 abbrev pub line_reply : ℕ → List ℕ → ScriptLine → Shots → Reply
 line_reply number line Blank shots = record { shots = shots; text = [] }
 line_reply number line (Calls times command) shots = replies_to times line command shots
-line_reply number line (NoCall fault) shots = record { shots = shots; text = faultText fault number }
+line_reply number line (NoCall fault) shots = record { shots = shots; text = fault_text fault number }
 
 -- The answers to lines, from this number and these shots on.
 unfoldable pub answers_from : ℕ → Shots → List (List ℕ) → List ℕ

@@ -4,7 +4,7 @@ ghost use Rattle.hexadecimal.specs.Hexadecimal.{decoded};
 ghost use Rattle.pixel.specs.MoveOne.{moved_one};
 ghost use Rattle.pixel.specs.Strip.{pixel_from};
 ghost use Rattle.script.specs.Script.{line_limit, HasCall};
-ghost use Rattle.answers.specs.Answers.{byteLimit, textLimit, numberText, WritesAnswer};
+ghost use Rattle.answers.specs.Answers.{byte_limit, text_limit, number_text, WritesAnswer};
 ghost use Rattle.book.specs.Book.{Call.opening, Call.measuring, Call.fixing, Call.colouring};
 ghost use Rattle.interpreter.specs.Interpreter.{new_shots, shot_of, with_shot, AllReachable, moved_text, kept, on_shot, answer_to, LeavesReply};
 
@@ -98,8 +98,8 @@ fn with_shot(shots: Shots, number: u32, shot: Shot) -> Shots
 
 // Puts the shot that a call handed back in the place of its number, and writes the call's number.
 fn answer_number(shots: Shots, number: u32, answer: Answer, output: &mut [u8]) -> Answered
-    requires { textLimit ≤ length output.old }
-    ensures { LeavesReply (kept shots number answer (numberText answer.number)) output.old result output.new }
+    requires { text_limit ≤ length output.old }
+    ensures { LeavesReply (kept shots number answer (number_text answer.number)) output.old result output.new }
 {
     let shot = answer.shot;
     let size = answers::write_number(answer.number, output);
@@ -111,7 +111,7 @@ fn answer_number(shots: Shots, number: u32, answer: Answer, output: &mut [u8]) -
 
 // open
 fn open_shot(shots: Shots, number: u32, output: &mut [u8]) -> Answered
-    requires { textLimit ≤ length output.old }
+    requires { text_limit ≤ length output.old }
     ensures { LeavesReply (on_shot shots number opening) output.old result output.new }
 {
     let answer = book::open(shot_of(shots, number));
@@ -122,7 +122,7 @@ fn open_shot(shots: Shots, number: u32, output: &mut [u8]) -> Answered
 fn measure_shot(shots: Shots, number: u32, strip: &[u8], output: &mut [u8]) -> Answered
     requires all_reachable { AllReachable shots }
     requires strip_len_bound { length strip.now ≤ line_limit }
-    requires text_limit_in_bounds { textLimit ≤ length output.old }
+    requires text_limit_in_bounds { text_limit ≤ length output.old }
     ensures { LeavesReply (on_shot shots number (measuring (decoded strip.now))) output.old result output.new }
 {
     let mut bytes = [0u8; answers::BYTE_LIMIT];
@@ -134,7 +134,7 @@ fn measure_shot(shots: Shots, number: u32, strip: &[u8], output: &mut [u8]) -> A
 // fix
 fn fix_shot(shots: Shots, number: u32, choice: u32, output: &mut [u8]) -> Answered
     requires all_reachable { AllReachable shots }
-    requires text_limit_in_bounds { textLimit ≤ length output.old }
+    requires text_limit_in_bounds { text_limit ≤ length output.old }
     ensures { LeavesReply (on_shot shots number (fixing choice)) output.old result output.new }
 {
     let answer = book::fix(shot_of(shots, number), choice);
@@ -152,8 +152,8 @@ fn colour_bytes(
     output: &mut [u8],
 ) -> Answered
     requires all_reachable { AllReachable shots }
-    requires destination_len_bound { length destination.old ≤ byteLimit }
-    requires text_limit_in_bounds { textLimit ≤ length output.old }
+    requires destination_len_bound { length destination.old ≤ byte_limit }
+    requires text_limit_in_bounds { text_limit ≤ length output.old }
     ensures { LeavesReply (on_shot shots number (colouring (record { method = method; dial = dial; source = source.now; destination = destination.old }))) output.old result output.new }
 {
     let answer = book::colour(shot_of(shots, number), method, dial, source, destination);
@@ -178,7 +178,7 @@ fn colour_shot(
     requires all_reachable { AllReachable shots }
     requires source_len_bound { length source.now ≤ line_limit }
     requires destination_len_bound { length destination.now ≤ line_limit }
-    requires text_limit_in_bounds { textLimit ≤ length output.old }
+    requires text_limit_in_bounds { text_limit ≤ length output.old }
     ensures { LeavesReply (on_shot shots number (colouring (record { method = method; dial = dial; source = decoded source.now; destination = decoded destination.now }))) output.old result output.new }
 {
     let mut from = [0u8; answers::BYTE_LIMIT];
@@ -199,7 +199,7 @@ fn colour_shot(
 // move
 fn move_pixel(method: u32, pixel: &[u8], target: u32, output: &mut [u8]) -> usize
     requires pixel_len { length pixel.now ≡ 6 }
-    requires text_limit_in_bounds { textLimit ≤ length output.old }
+    requires text_limit_in_bounds { text_limit ≤ length output.old }
     ensures { WritesAnswer (moved_text (moved_one method (pixel_from (decoded pixel.now) 0) target)) output.old result output.new }
 {
     let mut bytes = [0u8; 3];
@@ -214,7 +214,7 @@ fn move_pixel(method: u32, pixel: &[u8], target: u32, output: &mut [u8]) -> usiz
 pub fn answer(shots: Shots, command: Command, line: &[u8], output: &mut [u8]) -> Answered
     requires all_reachable { AllReachable shots }
     requires has_call { HasCall line.now command }
-    requires text_limit_in_bounds { textLimit ≤ length output.old }
+    requires text_limit_in_bounds { text_limit ≤ length output.old }
     ensures { LeavesReply (answer_to line.now shots command) output.old result output.new }
 {
     match command {

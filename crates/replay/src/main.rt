@@ -3,7 +3,7 @@
 // have any length.
 ghost use Rattle.std.specs.Prelude.{◌≡◌, ◌<◌, ◌≤◌, true, false, length};
 ghost use Rattle.script.specs.Script.{line_of, HasCall};
-ghost use Rattle.answers.specs.Answers.{textLimit};
+ghost use Rattle.answers.specs.Answers.{text_limit};
 ghost use Rattle.interpreter.specs.Interpreter.{AllReachable};
 ghost use Rattle.interpreter.specs.Scripts.{replies_to, line_reply};
 
@@ -66,7 +66,7 @@ fn make_calls(
 ) -> Session
     requires all_reachable { AllReachable shots }
     requires has_call { HasCall line.now command }
-    requires text_limit_in_bounds { textLimit ≤ length output.old }
+    requires text_limit_in_bounds { text_limit ≤ length output.old }
     ensures all_reachable_2 { AllReachable result.shots }
     ensures shots_value { result.written ≡ true → result.shots ≡ (replies_to times line.now command shots).shots }
 {
@@ -96,7 +96,7 @@ fn make_calls(
 // Answers that a line is no call.
 fn answer_fault(shots: Shots, lines: u64, fault: Fault, output: &mut [u8]) -> Session
     requires all_reachable { AllReachable shots }
-    requires text_limit_in_bounds { textLimit ≤ length output.old }
+    requires text_limit_in_bounds { text_limit ≤ length output.old }
     ensures all_reachable_2 { AllReachable result.shots }
     ensures shots_value { result.shots ≡ shots }
 {
@@ -112,7 +112,7 @@ fn answer_fault(shots: Shots, lines: u64, fault: Fault, output: &mut [u8]) -> Se
 // Answers a line; of one that is too long, the bytes at hand are its last.
 fn answer_line(session: Session, line: &[u8], output: &mut [u8]) -> Session
     requires all_reachable { AllReachable session.shots }
-    requires text_limit_in_bounds { textLimit ≤ length output.old }
+    requires text_limit_in_bounds { text_limit ≤ length output.old }
     ensures all_reachable_2 { AllReachable result.shots }
     ensures shots_value { session.overlong ≡ true → result.shots ≡ session.shots }
     ensures shots_value_2 { session.overlong ≡ false → result.written ≡ true → result.shots ≡ (line_reply result.lines line.now (line_of line.now) session.shots).shots }
@@ -139,7 +139,7 @@ fn answer_line(session: Session, line: &[u8], output: &mut [u8]) -> Session
 // Answers the lines that end within the bytes at hand.
 fn answer_lines(session: Session, bytes: &[u8], output: &mut [u8]) -> Progress
     requires all_reachable { AllReachable session.shots }
-    requires text_limit_in_bounds { textLimit ≤ length output.old }
+    requires text_limit_in_bounds { text_limit ≤ length output.old }
     ensures all_reachable_2 { AllReachable result.session.shots }
     ensures start_in_bounds { result.start ≤ length bytes.now }
 {
@@ -184,7 +184,7 @@ fn report(text: &[u8]) {
 // The script has ended: answers what is left of it, a line without its line feed.
 fn finish(session: Session, rest: &[u8], output: &mut [u8])
     requires all_reachable { AllReachable session.shots }
-    requires text_limit_in_bounds { textLimit ≤ length output.old }
+    requires text_limit_in_bounds { text_limit ≤ length output.old }
 {
     if rest.len() == 0 && !session.overlong {
         return;
@@ -251,7 +251,7 @@ fn read_more(buffer: &mut [u8], held: usize) -> Arrived
 fn read_and_answer(state: State, buffer: &mut [u8], output: &mut [u8]) -> State
     requires all_reachable { AllReachable state.session.shots }
     requires held_in_bounds { state.held < length buffer.old }
-    requires text_limit_in_bounds { textLimit ≤ length output.old }
+    requires text_limit_in_bounds { text_limit ≤ length output.old }
     ensures all_reachable_2 { AllReachable result.session.shots }
     ensures held_in_bounds_2 { result.held < length buffer.old }
 {

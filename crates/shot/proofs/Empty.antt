@@ -18,7 +18,7 @@ use Rattle.shot.specs.Reachable.{Reachable}
 use Rattle.measuring.specs.Histogram.{pixel_limit, with_pixels}
 use Rattle.shot.specs.Shot.{with_strip, measured, coloured}
 use Rattle.shot.specs.declared.Shot.{Shot}
-use Rattle.shot.proofs.Answers.{answer-accepted}
+use Rattle.shot.proofs.Answers.{answer_accepted}
 use Rattle.shot.proofs.Holds.{reachable_holds}
 
 -- no pixels added leave the counts as they are
@@ -37,7 +37,7 @@ empty_measured x r unfixed =
     let (ps, h) = reachable_holds r in
     let accepted : 0 ≡ (measured x []).number =
     sym (simp (unfixed, le-ltb pixel_limit (x.pixels + 0 / 3) (omega (arith, h.limit)))) in
-    sym (answer-accepted 0 _ x (with_strip x []) x accepted refl (sym (with_none x h.size)))
+    sym (answer_accepted 0 _ x (with_strip x []) x accepted refl (sym (with_none x h.size)))
 
 empty_coloured : (x : Shot) (method : ℕ) (dial : Dial) → x.fixed ≡ true → is_method method ≡ true → refusal_of (decoded dial) ≡ 0
     → coloured x (record { method = method; dial = dial; source = []; destination = [] })

@@ -31,7 +31,7 @@ use Rattle.netpbm.specs.declared.Reading.TheVariants.{Accepted}
 use Rattle.netpbm.proofs.Grammar.{written_is_read}
 use Rattle.still.specs.Agreement.{calls_of, bytes_left, FollowsShot, FilesFollowShots, pixels_of_file, FilesRoundThePaper, FilesAreAccurate, AnswersAreFiles}
 use Rattle.still.specs.Still.{file_choice, file_method, own_curve, balanced, picture, samples_due, IsAccepted, file_header, file_samples, answer}
-use Rattle.still.proofs.Answers.{accepted-fits, accepted-shot, accepted-answer, accepted-size, is-accepted}
+use Rattle.still.proofs.Answers.{accepted_fits, accepted_shot, accepted_answer, accepted_size, is_accepted}
 
 -- what the pixels written for a file are: those of a colouring, by a tone curve, of samples that are bytes
 pub record FileColouring (file : List ℕ) : Type 0 where
@@ -44,7 +44,7 @@ module _ (file : List ℕ) (accepted : IsAccepted file) where
   samples = file_samples file
 
   abbrev shot : StripAccepted (length samples)
-  shot = accepted-shot file accepted
+  shot = accepted_shot file accepted
 
   -- its samples are bytes
   samples_are_bytes : Bytes file → Bytes samples
@@ -95,7 +95,7 @@ module _ (file : List ℕ) (accepted : IsAccepted file) where
     follows_shot = record {
       accepted = calls_accepted;
       written =
-          accepted-answer file accepted
+          accepted_answer file accepted
           ∙ ap (λ (l : List ℕ). header_text (file_header file).width (file_header file).height ++ l) (sym calls_write);
       accurate = accuracy _ well_formed_lem;
     }
@@ -111,11 +111,11 @@ module _ (file : List ℕ) (accepted : IsAccepted file) where
   answer_reads : header_of (answer file) ≡ Accepted written_header
   unfolding picture
   answer_reads =
-      ap header_of (accepted-answer file accepted)
-      ∙ written_is_read _ _ (accepted-fits file accepted).some (accepted-fits file accepted).most (balanced samples)
+      ap header_of (accepted_answer file accepted)
+      ∙ written_is_read _ _ (accepted_fits file accepted).some (accepted_fits file accepted).most (balanced samples)
 
   answer_exact : length (answer file) - written_header.start ≡ samples_due written_header
-  answer_exact = omega (arith, accepted-size file accepted)
+  answer_exact = omega (arith, accepted_size file accepted)
 
   answer_header : file_header (answer file) ≡ written_header
   answer_header = ap values_of answer_reads
@@ -124,7 +124,7 @@ module _ (file : List ℕ) (accepted : IsAccepted file) where
   answer_samples : file_samples (answer file) ≡ balanced samples
   unfolding picture
   answer_samples =
-      ap₂ drop (ap (λ (h : Header). h.start) answer_header) (accepted-answer file accepted)
+      ap₂ drop (ap (λ (h : Header). h.start) answer_header) (accepted_answer file accepted)
       ∙ drop-append_seam (header_text (file_header file).width (file_header file).height) (balanced samples)
 
   -- so its pixels are those of a colouring by a tone curve
@@ -166,7 +166,7 @@ files_follow_shots file bytes accepted destination same = follows_shot file acce
 
 pub answers_are_files : AnswersAreFiles
 answers_are_files = record {
-  accepted = λ file accepted. is-accepted (answer file) _ (answer_reads file accepted) (answer_exact file accepted);
+  accepted = λ file accepted. is_accepted (answer file) _ (answer_reads file accepted) (answer_exact file accepted);
   width = λ file accepted. ap (λ (h : Header). h.width) (answer_header file accepted);
   height = λ file accepted. ap (λ (h : Header). h.height) (answer_header file accepted);
 }

@@ -24,8 +24,8 @@ use Rattle.still.proofs.Samples.{whole_shot, balanced_length}
 use Rattle.still.specs.Still.{balanced, picture, refusal_line, samples_due, sample_checks, file_checks, file_number, IsAccepted, file_header, file_samples, answer, output_limit, outcome}
 
 -- every header that was read keeps what the checks lean on
-pub file-values-fit : (file : List ℕ) → ValuesFit (file_header file) (length file)
-file-values-fit file = go (header_of file) refl
+pub file_values_fit : (file : List ℕ) → ValuesFit (file_header file) (length file)
+file_values_fit file = go (header_of file) refl
   where
     go : (reading : Reading) → header_of file ≡ reading → ValuesFit (values_of reading) (length file)
     go (Accepted header) reads =
@@ -36,68 +36,68 @@ file-values-fit file = go (header_of file) refl
     go OtherSize reads = record { starts = zero-le; most = zero-le }
 
 -- the number of a header that is accepted is that of its samples
-pub number-of-samples : (reading : Reading) (size : ℕ) → number_of reading ≡ 0
+pub number_of_samples : (reading : Reading) (size : ℕ) → number_of reading ≡ 0
     → first_of (file_checks reading size) ≡ first_of (sample_checks (samples_due (values_of reading)) (size - (values_of reading).start))
-number-of-samples reading size e = rw (eq-eqb (number_of reading) 0 e) refl
+number_of_samples reading size e = rw (eq-eqb (number_of reading) 0 e) refl
 
-pub number-of-header : (reading : Reading) (size : ℕ) → (number_of reading ≡ 0 → ⊥) → first_of (file_checks reading size) ≡ number_of reading
-number-of-header reading size refused = rw (ne_eqb (number_of reading) 0 refused) refl
+pub number_of_header : (reading : Reading) (size : ℕ) → (number_of reading ≡ 0 → ⊥) → first_of (file_checks reading size) ≡ number_of reading
+number_of_header reading size refused = rw (ne_eqb (number_of reading) 0 refused) refl
 
 -- a header's own check has a number where it applies
-header-numbered : (n : ℕ) (checks : List Check) → are_numbered checks ≡ true → are_numbered (not (eqb n 0) refuses n ∷ checks) ≡ true
-header-numbered n checks rest =
+header_numbered : (n : ℕ) (checks : List Check) → are_numbered checks ≡ true → are_numbered (not (eqb n 0) refuses n ∷ checks) ≡ true
+header_numbered n checks rest =
     either n 0 (λ l. simp (eq-eqb n 0 (omega arith), le-ltb 0 n (omega arith)) rest) (λ l. simp (lt-ltb 0 n l) rest)
 
 -- where no check of a file applies, the header's does not, and exactly the samples due are present
-file-passed : (reading : Reading) (size : ℕ) → first_of (file_checks reading size) ≡ 0
+file_passed : (reading : Reading) (size : ℕ) → first_of (file_checks reading size) ≡ 0
     → (number_of reading ≡ 0) × (size - (values_of reading).start ≡ samples_due (values_of reading))
-file-passed reading size e =
+file_passed reading size e =
     let due = samples_due (values_of reading) in
     let present = size - (values_of reading).start in
-    let (header, (few, (many, _))) = none_applies (file_checks reading size) (header-numbered (number_of reading) (sample_checks due present) refl) e in
+    let (header, (few, (many, _))) = none_applies (file_checks reading size) (header_numbered (number_of reading) (sample_checks due present) refl) e in
     (eqb-true _ _ (not-false _ header), omega (arith, ltb-false present due few, ltb-false due present many))
 
 -- An accepted file.
 module _ (file : List ℕ) (accepted : IsAccepted file) where
   passed : (number_of (header_of file) ≡ 0) × (length file - (file_header file).start ≡ samples_due (file_header file))
   unfolding file_number
-  passed = file-passed (header_of file) (length file) accepted
+  passed = file_passed (header_of file) (length file) accepted
 
   -- its header is accepted
-  accepted-reads : header_of file ≡ Accepted (file_header file)
-  accepted-reads = accepted_is (header_of file) passed.0
+  accepted_reads : header_of file ≡ Accepted (file_header file)
+  accepted_reads = accepted_is (header_of file) passed.0
 
-  pub accepted-fits : HeaderFits (file_header file) (length file)
-  accepted-fits = accepted_headers_fit file (file_header file) accepted-reads
+  pub accepted_fits : HeaderFits (file_header file) (length file)
+  accepted_fits = accepted_headers_fit file (file_header file) accepted_reads
 
   -- it has exactly the samples due
-  pub accepted-exact : length (file_samples file) ≡ samples_due (file_header file)
-  accepted-exact = length-drop (file_header file).start file ∙ passed.1
+  pub accepted_exact : length (file_samples file) ≡ samples_due (file_header file)
+  accepted_exact = length-drop (file_header file).start file ∙ passed.1
 
   -- so they can be taken as a whole shot
-  pub accepted-shot : StripAccepted (length (file_samples file))
-  accepted-shot = whole_shot _ _ accepted-exact accepted-fits.some accepted-fits.most
+  pub accepted_shot : StripAccepted (length (file_samples file))
+  accepted_shot = whole_shot _ _ accepted_exact accepted_fits.some accepted_fits.most
 
   -- and its answer is a picture
-  pub accepted-answer : answer file ≡ picture (file_header file).width (file_header file).height (file_samples file)
+  pub accepted_answer : answer file ≡ picture (file_header file).width (file_header file).height (file_samples file)
   unfolding answer
-  accepted-answer = accepted_leaves (file_number file) _ _ accepted
+  accepted_answer = accepted_leaves (file_number file) _ _ accepted
 
-  pub accepted-size : length (answer file) ≡ length (header_text (file_header file).width (file_header file).height) + samples_due (file_header file)
+  pub accepted_size : length (answer file) ≡ length (header_text (file_header file).width (file_header file).height) + samples_due (file_header file)
   unfolding picture
-  accepted-size =
+  accepted_size =
       omega (
         arith,
-        ap length accepted-answer,
+        ap length accepted_answer,
         length-append (header_text (file_header file).width (file_header file).height) (balanced (file_samples file)),
-        balanced_length (file_samples file) accepted-shot.whole,
-        accepted-exact,
+        balanced_length (file_samples file) accepted_shot.whole,
+        accepted_exact,
       )
 
 -- a header that is accepted, with exactly the samples due, makes an accepted file
-pub is-accepted : (file : List ℕ) (header : Header) → header_of file ≡ Accepted header → length file - header.start ≡ samples_due header → IsAccepted file
+pub is_accepted : (file : List ℕ) (header : Header) → header_of file ≡ Accepted header → length file - header.start ≡ samples_due header → IsAccepted file
 unfolding file_number
-is-accepted file header reads exact =
+is_accepted file header reads exact =
     rw (
       reads,
       le-ltb (length file - header.start) (samples_due header) (omega (arith, exact)),
@@ -105,18 +105,18 @@ is-accepted file header reads exact =
     )
     refl
 
-pub refused-answer : (file : List ℕ) → (file_number file ≡ 0 → ⊥) → answer file ≡ refusal_line (file_number file)
+pub refused_answer : (file : List ℕ) → (file_number file ≡ 0 → ⊥) → answer file ≡ refusal_line (file_number file)
 unfolding answer
-refused-answer file = refused_leaves (file_number file) _ _
+refused_answer file = refused_leaves (file_number file) _ _
 
 module _ (file output : List ℕ) where
-  pub short-outcome : length output < output_limit → outcome file output ≡ record { size = 0; output = output }
+  pub short_outcome : length output < output_limit → outcome file output ≡ record { size = 0; output = output }
   unfolding outcome
-  short-outcome short = rw (lt-ltb _ _ short) refl
+  short_outcome short = rw (lt-ltb _ _ short) refl
 
-  pub answer-outcome : (size : ℕ) (after : List ℕ) → output_limit ≤ length output → Writes 0 (answer file) output size after
+  pub answer_outcome : (size : ℕ) (after : List ℕ) → output_limit ≤ length output → Writes 0 (answer file) output size after
       → outcome file output ≡ record { size = size; output = after }
   unfolding outcome
-  answer-outcome size after fits wrote =
+  answer_outcome size after fits wrote =
       rw (le-ltb _ _ fits)
       (ap₂ (λ (n : ℕ) (o : List ℕ). record { size = n; output = o }) (sym (wrote.ends ∙ zero-add _)) (sym wrote.holds))

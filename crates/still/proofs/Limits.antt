@@ -23,16 +23,16 @@ use Rattle.netpbm.proofs.Accepted.{accepted_headers_fit}
 use Rattle.netpbm.proofs.Written.{written_headers_fit}
 use Rattle.still.specs.Limits.{input_limit, largest_file, OneByteMore, FirstBytesAreEnough, AnswersFit}
 use Rattle.still.specs.Still.{picture, refusal_line, samples_due, file_checks, file_number, IsAccepted, file_header, file_samples, answer, output_limit, Outcome, outcome}
-use Rattle.still.proofs.Answers.{accepted-fits, accepted-exact, accepted-answer, accepted-size, is-accepted, refused-answer}
+use Rattle.still.proofs.Answers.{accepted_fits, accepted_exact, accepted_answer, accepted_size, is_accepted, refused_answer}
 use Rattle.still.proofs.Sizes.{refusal_short, number_small}
 
 -- an accepted file is its header and its samples
 file_size : (file : List ℕ) → IsAccepted file → length file ≡ (file_header file).start + samples_due (file_header file)
 file_size file accepted =
-    omega (arith, (accepted-fits file accepted).starts, accepted-exact file accepted, length-drop (file_header file).start file)
+    omega (arith, (accepted_fits file accepted).starts, accepted_exact file accepted, length-drop (file_header file).start file)
 
 accepted_within : (file : List ℕ) → IsAccepted file → length file < input_limit
-accepted_within file accepted = omega (arith, file_size file accepted, (accepted-fits file accepted).short, (accepted-fits file accepted).most)
+accepted_within file accepted = omega (arith, file_size file accepted, (accepted_fits file accepted).short, (accepted_fits file accepted).most)
 
 largest_size : length largest_file + 1 ≡ input_limit
 unfolding largest_file
@@ -45,7 +45,7 @@ largest_reads = refl
 pub one_byte_more : OneByteMore
 one_byte_more = record {
   within = accepted_within;
-  accepted = is-accepted largest_file _ largest_reads (omega (arith, largest_size));
+  accepted = is_accepted largest_file _ largest_reads (omega (arith, largest_size));
   largest = largest_size;
 }
 
@@ -78,7 +78,7 @@ module _ (file : List ℕ) where
   overlong_answer begin same many =
       let number : file_number begin ≡ overlong_number (header_of file) =
       ap (λ (r : Reading). first_of (file_checks r (length begin))) same ∙ overlong_number_lem (header_of file) (length begin) refl many in
-      refused-answer begin (λ e. overlong_refuses (header_of file) (sym number ∙ e)) ∙ ap refusal_line number
+      refused_answer begin (λ e. overlong_refuses (header_of file) (sym number ∙ e)) ∙ ap refusal_line number
 
   same_answer : input_limit < length file → answer (take input_limit file) ≡ answer file
   same_answer many =
@@ -97,12 +97,12 @@ answers_fit file =
     either_leaves (file_number file) (picture (file_header file).width (file_header file).height (file_samples file)) (refusal_line (file_number file))
     (λ (l : List ℕ). length l ≤ output_limit)
     (λ accepted.
-    let fits = accepted-fits file accepted in
+    let fits = accepted_fits file accepted in
     omega (
       arith,
       written_headers_fit (file_header file).width (file_header file).height fits.some fits.most,
-      ap length (accepted-answer file accepted),
-      accepted-size file accepted,
+      ap length (accepted_answer file accepted),
+      accepted_size file accepted,
       fits.most,
     ))
     (omega (arith, refusal_short (file_number file) (number_small (header_of file) (length file))))

@@ -7,13 +7,13 @@ use Prim.Native.Nat.{◌+◌, ◌≤◌, zero-le}
 use lib.ListN.{length}
 use Rattle.text.specs.Decimal.{decimal}
 use Rattle.text.specs.Text.{ascii, Writes}
-use Rattle.answers.specs.Answers.{stripText}
+use Rattle.answers.specs.Answers.{strip_text}
 use borrow.Author.Rules.{rules}
 use Rattle.answers.proofs.write_bytes.Statement.{statement}
 use Rattle.answers.proofs.write_bytes.Tie as tie
 
 -- the output has room for all pieces
-room : (c : tie.Start) → length (decimal c.args.number) + length (stripText c.args.bytes.now) + 2 ≤ length c.args.output.now
+room : (c : tie.Start) → length (decimal c.args.number) + length (strip_text c.args.bytes.now) + 2 ≤ length c.args.output.now
 room c = omega (arith, decimal_size c.args.number (omega arith), strip_size c.args.bytes.now, c.requires)
 
 write-decimal-requires : tie.Need-write-decimal-requires
@@ -39,7 +39,7 @@ write-strip-requires c κs =
 
 -- the bytes
 stripped : (c : tie.After-write-strip) → let start = c.before.before.before.before.before.before.before.before.before.before.before.before.before in
-    Writes 0 (decimal start.args.number ++ ascii " " ++ stripText start.args.bytes.now) start.args.output.now
+    Writes 0 (decimal start.args.number ++ ascii " " ++ strip_text start.args.bytes.now) start.args.output.now
     c.write-strip.result
     c.write-strip.new.1.0
 stripped c = writes_more (spaced c.before.before.before.before) zero-le c.write-strip.ensures

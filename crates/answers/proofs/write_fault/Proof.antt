@@ -7,13 +7,13 @@ use Prim.Native.Nat.{◌+◌, ◌≤◌, zero-le}
 use lib.ListN.{length}
 use Rattle.text.specs.Decimal.{decimal}
 use Rattle.text.specs.Text.{ascii, Writes}
-use Rattle.answers.specs.Answers.{reasonText, faultText}
+use Rattle.answers.specs.Answers.{reason_text, fault_text}
 use borrow.Author.Rules.{rules}
 use Rattle.answers.proofs.write_fault.Statement.{statement}
 use Rattle.answers.proofs.write_fault.Tie as tie
 
 -- the output has room for all pieces
-room : (c : tie.Start) → length (decimal c.args.line) + length (reasonText c.args.fault) + 19 ≤ length c.args.output.now
+room : (c : tie.Start) → length (decimal c.args.line) + length (reason_text c.args.fault) + 19 ≤ length c.args.output.now
 room c = omega (arith, decimal_size c.args.line (omega arith), reason_size c.args.fault, c.requires)
 
 slice-aggregate-write-text : tie.Need-slice-aggregate-write-text
@@ -54,7 +54,7 @@ write-reason-requires c κs =
 
 -- and why
 reasoned : (c : tie.After-write-reason) → let start = c.before.before.before.before.before.before.before.before.before.before.before.before.before.before.before.before.before in
-    Writes 0 (ascii "line " ++ decimal start.args.line ++ ascii " is no call: " ++ reasonText start.args.fault) start.args.output.now
+    Writes 0 (ascii "line " ++ decimal start.args.line ++ ascii " is no call: " ++ reason_text start.args.fault) start.args.output.now
     c.write-reason.result
     c.write-reason.new.1.0
 reasoned c = writes_more (introduced c.before.before.before.before) zero-le c.write-reason.ensures
@@ -71,7 +71,7 @@ same_length : tie.Need-same-length
 same_length c = search rules
 
 returns : tie.Need-returns
-unfolding faultText
+unfolding fault_text
 returns c =
     let start = c.before.before.before.before.before.before.before.before.before.before.before.before.before.before.before.before.before.before.before.before.before.before.before.before in
     record {

@@ -2,14 +2,14 @@
 use Rattle.std.proofs.Common.{◌≡◌, ◌+◌, ◌≤◌, length, sym, refl, subst, arith, rules}
 use Rattle.script.specs.Script.{line_limit}
 use Rattle.interpreter.specs.Interpreter.{AllReachable}
-use Rattle.answers.specs.Answers.{textLimit}
+use Rattle.answers.specs.Answers.{text_limit}
 use Rattle.interpreter.proofs.Premise.{new_reachable}
 use Rattle.replay.proofs.main.Statement.{statement}
 use Rattle.replay.proofs.main.Tie as tie
 
 abbrev invariant-loop : tie.invariant-loop
 invariant-loop buffer₀ output₀ state₀ turns₀ buffer output state turns =
-    AllReachable state.session.shots × (state.held ≤ line_limit) × (length buffer ≡ line_limit + 1) × (length output ≡ textLimit)
+    AllReachable state.session.shots × (state.held ≤ line_limit) × (length buffer ≡ line_limit + 1) × (length output ≡ text_limit)
 
 abbrev decreases-loop : tie.decreases-loop
 decreases-loop buffer₀ output₀ state₀ turns₀ buffer output state turns = turns

@@ -1,7 +1,7 @@
 -- `replay::make_calls` meets its contract.
 use Rattle.std.proofs.Common.{◌≡◌, ◌-◌, ◌≤◌, length, refl, ap, ◌∙◌, arith, rules}
 use mathlib.Core.Bool.{false≢true}
-use Rattle.answers.specs.Answers.{textLimit}
+use Rattle.answers.specs.Answers.{text_limit}
 use Rattle.answers.proofs.Sizes.{answer_within, answer_length}
 use Rattle.interpreter.specs.Interpreter.{AllReachable}
 use Rattle.interpreter.specs.Scripts.{replies_to}
@@ -22,7 +22,7 @@ loop-holds : tie.Need-loop-init invariant-loop decreases-loop
 loop-holds c = (c.before.before.requires.0, refl, refl)
 
 -- the output still has room for every answer
-room : (c : tie.At-loop invariant-loop decreases-loop) → textLimit ≤ length c.loop.output
+room : (c : tie.At-loop invariant-loop decreases-loop) → text_limit ≤ length c.loop.output
 room c = omega (arith, c.loop.invariant.1, c.before.before.before.requires)
 
 answer-requires : tie.Need-answer-requires invariant-loop decreases-loop

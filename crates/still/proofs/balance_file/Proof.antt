@@ -14,13 +14,13 @@ use Rattle.netpbm.specs.declared.Header.{Header}
 use Rattle.netpbm.specs.declared.Reading.{Reading}
 use Rattle.still.specs.Inner.{PictureFits, ValuesFit}
 use Rattle.still.specs.Still.{picture, refusal_line, file_checks, file_number, IsAccepted, file_header, file_samples}
-use Rattle.still.proofs.Answers.{file-values-fit, accepted-fits, accepted-exact, accepted-shot, accepted-answer, refused-answer, short-outcome, answer-outcome}
+use Rattle.still.proofs.Answers.{file_values_fit, accepted_fits, accepted_exact, accepted_shot, accepted_answer, refused_answer, short_outcome, answer_outcome}
 use Rattle.still.proofs.Sizes.{refusal_short, number_small}
 use Rattle.still.proofs.balance_file.Statement.{statement}
 use Rattle.still.proofs.balance_file.Tie as tie
 
 returns : tie.Need-returns
-returns c = short-outcome _ _ c.if1.true
+returns c = short_outcome _ _ c.if1.true
 
 read-header-requires : tie.Need-read-header-requires
 read-header-requires c κs = search rules
@@ -28,7 +28,7 @@ read-header-requires c κs = search rules
 file-number-requires : tie.Need-file-number-requires
 file-number-requires c κs =
     let file = c.before.before.before.before.args.file.now in
-    subst (λ (r : Reading). ValuesFit (values_of r) (length file)) (sym c.read-header.ensures) (file-values-fit file)
+    subst (λ (r : Reading). ValuesFit (values_of r) (length file)) (sym c.read-header.ensures) (file_values_fit file)
 
 -- the number is the file's
 number_is : (c : tie.After-file-number) → c.file-number.result ≡ file_number c.before.before.before.before.before.args.file.now
@@ -52,9 +52,9 @@ returns-2 c =
     let numbered = writing.before.before.before in
     let start = numbered.before.before.before.before.before in
     let file = start.args.file.now in
-    answer-outcome file _ _ _ numbered.before.before.if1.false
+    answer_outcome file _ _ _ numbered.before.before.if1.false
     (subst (λ (text : List ℕ). Writes 0 text start.args.output.now writing.write-refusal.result writing.write-refusal.new.1.0)
-    (ap refusal_line (number_is numbered) ∙ sym (refused-answer file (λ e. writing.before.before.if2.true (number_is numbered ∙ e))))
+    (ap refusal_line (number_is numbered) ∙ sym (refused_answer file (λ e. writing.before.before.if2.true (number_is numbered ∙ e))))
     writing.write-refusal.ensures)
 
 values-of-requires : tie.Need-values-of-requires
@@ -72,7 +72,7 @@ header_is c = c.values_of.ensures ∙ ap values_of c.before.before.before.read-h
 starts : (c : tie.After-values-of) → c.values_of.result.start ≤ length c.before.before.before.before.before.before.before.args.file.now
 starts c =
     let file = c.before.before.before.before.before.before.before.args.file.now in
-    subst (λ (header : Header). header.start ≤ length file) (sym (header_is c)) (file-values-fit file).starts
+    subst (λ (header : Header). header.start ≤ length file) (sym (header_is c)) (file_values_fit file).starts
 
 -- what is taken as the samples
 abbrev samples : tie.After-values-of → List ℕ
@@ -106,12 +106,12 @@ write-picture-requires c κs =
     let start = values.before.before.before.before.before.before.before in
     let file = start.args.file.now in
     let ok = accepted values.before in
-    let fits = accepted-fits file ok in
-    let shot = subst (λ (strip : List ℕ). StripAccepted (length strip)) (sym (samples-are values)) (accepted-shot file ok) in (
+    let fits = accepted_fits file ok in
+    let shot = subst (λ (strip : List ℕ). StripAccepted (length strip)) (sym (samples-are values)) (accepted_shot file ok) in (
       subst (λ (header : Header). PictureFits header.width header.height (length (samples values)) (length start.args.output.now))
           (sym (header_is values))
           (record {
-            exact = ap length (samples-are values) ∙ accepted-exact file ok;
+            exact = ap length (samples-are values) ∙ accepted_exact file ok;
             some = fits.some;
             most = fits.most;
             room = values.before.before.before.before.if1.false;
@@ -128,11 +128,11 @@ returns-3 c =
     let values = writing.before.before.before.before.before.before in
     let start = values.before.before.before.before.before.before.before in
     let file = start.args.file.now in
-    answer-outcome file _ _ _ values.before.before.before.before.if1.false
+    answer_outcome file _ _ _ values.before.before.before.before.if1.false
     (subst (λ (text : List ℕ). Writes 0 text start.args.output.now writing.write-picture.result writing.write-picture.new.1.1.1.1.0)
     (ap (λ (header : Header). picture header.width header.height (samples values)) (header_is values)
     ∙ ap (picture (file_header file).width (file_header file).height) (samples-are values)
-    ∙ sym (accepted-answer file (accepted values.before)))
+    ∙ sym (accepted_answer file (accepted values.before)))
     writing.write-picture.ensures)
 
 pub balance-file-spec : {M : Type 1} → statement M

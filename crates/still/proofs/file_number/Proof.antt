@@ -7,7 +7,7 @@ use Rattle.refusal.specs.Refusal.{first_of}
 use Rattle.netpbm.specs.declared.Header.{Header}
 use Rattle.still.specs.Inner.{ValuesFit}
 use Rattle.still.specs.Still.{samples_due, sample_checks}
-use Rattle.still.proofs.Answers.{number-of-samples, number-of-header}
+use Rattle.still.proofs.Answers.{number_of_samples, number_of_header}
 use Rattle.still.proofs.file_number.Statement.{statement}
 use Rattle.still.proofs.file_number.Tie as tie
 
@@ -21,7 +21,7 @@ returns : tie.Need-returns
 returns c =
     let numbered = c.before.number_of_lem.ensures in
     let args = c.before.before.before.args in
-    numbered ∙ sym (number-of-header args.reading args.size (λ e. c.if1.true (numbered ∙ e)))
+    numbered ∙ sym (number_of_header args.reading args.size (λ e. c.if1.true (numbered ∙ e)))
 
 area-requires : tie.Need-area-requires
 area-requires c κs = search rules
@@ -48,7 +48,7 @@ returns-2 c =
     c.samples-number.ensures
     ∙ ap (λ (n : ℕ). first_of (sample_checks (3 * n) (size - values.values_of.result.start))) area.area.ensures
     ∙ ap (λ (header : Header). first_of (sample_checks (samples_due header) (size - header.start))) values.values_of.ensures
-    ∙ sym (number-of-samples values.before.args.reading size (sym numbered.number_of_lem.ensures ∙ area.before.if1.false))
+    ∙ sym (number_of_samples values.before.args.reading size (sym numbered.number_of_lem.ensures ∙ area.before.if1.false))
 
 pub file-number-spec : {M : Type 1} → statement M
 file-number-spec =

@@ -16,7 +16,7 @@ use Rattle.dial.proofs.Range.{setting_in_range}
 use Rattle.colouring.specs.Colouring.{coloured_under}
 use Rattle.shot.specs.Shot.{ColourRequest, colour_checks, coloured}
 use Rattle.shot.specs.declared.Shot.{Shot}
-use Rattle.shot.proofs.Answers.{coloured-refused, coloured-accepted}
+use Rattle.shot.proofs.Answers.{coloured_refused, coloured_accepted}
 use Rattle.shot.proofs.Passed.{ColouringAccepted, colour_passed}
 use Rattle.shot.proofs.Premise.{entries_in_range}
 use Rattle.shot.proofs.Shot.colour.Statement.{statement}
@@ -87,14 +87,14 @@ returns : tie.Need-returns
 returns c =
     let passed = c.before.before.before.before.before.before.before.before in
     let a = passed.before.before.before.before.before.before.before.args in
-    coloured-accepted _ _ _ (number passed.before) _ passed.if1.true
+    coloured_accepted _ _ _ (number passed.before) _ passed.if1.true
     (c.before.before.colour-under.ensures
     ∙ ap₂ (λ (s : Setting) (m : Method). coloured_under s m a.self.curve a.source.now)
     (setting c.before.before.before.before.before.before)
     c.before.before.before.before.method-of.ensures)
 
 returns-2 : tie.Need-returns-2
-returns-2 c = coloured-refused _ _ _ (number c.before) c.if1.false
+returns-2 c = coloured_refused _ _ _ (number c.before) c.if1.false
 
 pub colour-spec : {M : Type 1} → statement M
 colour-spec =

@@ -12,7 +12,7 @@ use Rattle.measuring.specs.Histogram.{cumulative}
 use Rattle.curve.specs.declared.Choice.{Choice}
 use Rattle.shot.specs.Shot.{fix_checks, fixed_with}
 use Rattle.shot.specs.declared.Shot.{Shot}
-use Rattle.shot.proofs.Answers.{answer-refused, answer-accepted}
+use Rattle.shot.proofs.Answers.{answer_refused, answer_accepted}
 use Rattle.shot.proofs.Passed.{FixingAccepted, fix_passed}
 use Rattle.shot.proofs.Premise.{histogram_of}
 use Rattle.shot.proofs.Shot.fix.Statement.{statement}
@@ -34,7 +34,7 @@ returns : tie.Need-returns
 unfolding fixed_with
 returns c =
     let a = c.before.before.before.before.args in
-    answer-refused _ _ _ _
+    answer_refused _ _ _ _
     (number_is a.self a.choice _ _ c.before.before.before.is-choice.ensures c.before.fix-refusal.ensures)
     c.if1.true
 
@@ -60,7 +60,7 @@ returns-2 c =
     let passed = c.before.before.before.before in
     let a = passed.before.before.before.before.args in
     let x = a.self in
-    answer-accepted _ _ _ _ _
+    answer_accepted _ _ _ _ _
     (number_is x a.choice _ _ passed.before.before.before.is-choice.ensures passed.before.fix-refusal.ensures)
     passed.if1.false
     (ap (λ (curve : List ℕ). record { counts = x.counts; pixels = x.pixels; fixed = true; curve = curve })

@@ -14,7 +14,7 @@ use Rattle.shot.specs.Reachable.{Reachable}
 use Rattle.measuring.specs.Histogram.{pixel_limit}
 use Rattle.shot.specs.Shot.{measure_checks, measured}
 use Rattle.shot.specs.declared.Shot.{Shot}
-use Rattle.shot.proofs.Answers.{answer-refused, answer-accepted}
+use Rattle.shot.proofs.Answers.{answer_refused, answer_accepted}
 use Rattle.shot.proofs.Passed.{MeasuringAccepted, measure_passed}
 use Rattle.shot.proofs.Premise.{within_limit, counts_fit}
 use Rattle.shot.proofs.Shot.measure.Statement.{statement}
@@ -46,7 +46,7 @@ returns : tie.Need-returns
 unfolding measured
 returns c =
     let start = c.before.before.before.before in
-    answer-refused _ _ _ _ (number_is start.requires start.args.strip.now _ c.before.measure-refusal.ensures) c.if1.true
+    answer_refused _ _ _ _ (number_is start.requires start.args.strip.now _ c.before.measure-refusal.ensures) c.if1.true
 
 -- what the answer 0 says
 accepted : (c : tie.Else1)
@@ -70,7 +70,7 @@ returns-2 c =
     let passed = c.before.before.before.before in
     let start = passed.before.before.before.before in
     let x = start.args.self in
-    answer-accepted _ _ _ _ _ (number_is start.requires start.args.strip.now _ passed.before.measure-refusal.ensures) passed.if1.false
+    answer_accepted _ _ _ _ _ (number_is start.requires start.args.strip.now _ passed.before.measure-refusal.ensures) passed.if1.false
     (ap
     (λ (counts : List ℕ).
     record { counts = counts; pixels = x.pixels + length start.args.strip.now / 3; fixed = x.fixed; curve = x.curve })

@@ -1,4 +1,6 @@
 // The text of what the program `replay` answers.
+#![tactic(auto)]
+
 ghost use Rattle.std.specs.Prelude.{◌+◌, ◌≤◌, length};
 ghost use Rattle.text.specs.Text.{Writes};
 ghost use Rattle.answers.specs.Answers.{byte_limit, text_limit, number_text, strip_text, bytes_text, reason_text, fault_text, WritesAnswer};

@@ -1,5 +1,7 @@
 // The program `balance` (document 01, "Frames from a file"): reads an image from standard input and writes the answer to standard output.
 // All that is decided is decided in `still`.
+#![tactic(auto)]
+
 use libc::{STDERR_FILENO, STDIN_FILENO, STDOUT_FILENO};
 
 fn main() {

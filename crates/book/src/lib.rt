@@ -1,5 +1,7 @@
 // The calls of a list, each by the code itself. Their contracts are what `step` says of the call (specs/Run.antt), so a list of
 // steps, of which demand 3 speaks, is a list of calls. All else of this crate is definitions and laws: see specs/ and proofs/.
+#![tactic(auto)]
+
 ghost use Rattle.std.specs.Prelude.{◌≡◌};
 ghost use Rattle.shot.specs.Reachable.{Reachable};
 ghost use Rattle.book.specs.Book.{Call.opening, Call.measuring, Call.fixing, Call.colouring};

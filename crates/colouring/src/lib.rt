@@ -1,5 +1,7 @@
 // Colouring a strip by a curve and a method (document 01, "Moving a pixel"), along the lines of its intensities, and under a setting of the
 // dial (document 02, wish 1).
+#![tactic(auto)]
+
 ghost use Rattle.std.specs.Prelude.{◌≡◌, ◌≤◌, replicate};
 ghost use Rattle.curve.specs.Curve.{EntriesInRange};
 ghost use Rattle.settings.specs.Setting.{SettingInRange};

@@ -1,4 +1,6 @@
 // The tone curve of a shot, from its histogram (document 01, "Fixing the curve").
+#![tactic(auto)]
+
 ghost use Rattle.std.specs.Prelude.{◌≡◌, true, ◌*◌, ◌^◌, ◌≤◌, ◌<◌};
 ghost use Rattle.tables.specs.Table.{tabulate, at};
 ghost use Rattle.targets.specs.Cube.{G};
@@ -9,7 +11,7 @@ ghost use Rattle.curve.specs.Inner.{Plateau, Below, Bounding, HistogramOf, Share
 ghost use Rattle.curve.specs.Nearest.{nearest_place};
 
 // The curve choices: the cube's (equation 14 of source 004) and the equalised one (equation 5).
-#[derive(Drop)]
+#[derive(Clone, Copy)]
 pub enum Choice {
     Cube,
     Equalised,
@@ -35,7 +37,7 @@ pub fn choice_of(number: u32) -> Choice
 
 // Where an aim lies in a sequence that does not fall: `upper` is the first place that holds at least the aim, or 766, and `lower` the
 // first that holds as much as the place before `upper`, since a sequence may stay level. Both are 0 where no place is below the aim.
-#[derive(Drop)]
+#[derive(Clone, Copy)]
 struct Bounds {
     lower: usize,
     upper: usize,

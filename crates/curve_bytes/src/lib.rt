@@ -1,4 +1,6 @@
 // A curve at the host's boundary (document 01, "The panel's host"): written as bytes, read back, and the rule by which one is accepted.
+#![tactic(auto)]
+
 ghost use Rattle.std.specs.Prelude.{◌≡◌, ◌+◌, ◌*◌, ◌/◌, ◌%◌, length};
 ghost use Rattle.curve_bytes.specs.CurveBytes.{curve_length, curve_bytes, curve_entries, none_falls, keeps_curve_rule};
 

@@ -1,11 +1,13 @@
 // Commands of the strength dial (document 02, wish 1), decoded to settings in whole numbers.
+#![tactic(auto)]
+
 ghost use Rattle.std.specs.Prelude.{◌≡◌};
 ghost use Rattle.dial.specs.Dial.{whole_of, decoded, refusal_of, setting_of};
 
 use settings::Setting;
 
 // The panel's command, as it was sent.
-#[derive(Drop)]
+#[derive(Clone, Copy)]
 pub enum Dial {
     Off,
     Mix(f32),
@@ -13,7 +15,7 @@ pub enum Dial {
 }
 
 // What a command is decoded to: a setting, or what is wrong with it.
-#[derive(Drop)]
+#[derive(Clone, Copy)]
 pub enum Decoded {
     Accepted(Setting),
     NotAStop,
@@ -21,7 +23,7 @@ pub enum Decoded {
 }
 
 // A whole number, or none.
-#[derive(Drop)]
+#[derive(Clone, Copy)]
 enum Whole {
     Is(u32),
     Not,

@@ -1,4 +1,6 @@
 // The dial among the words of a line of a script: off, mix and a float, or hold and a float.
+#![tactic(auto)]
+
 ghost use Rattle.std.specs.Prelude.{◌≡◌, [], ◌∷◌, length};
 ghost use Rattle.std.specs.Float.{binary32, nan};
 ghost use Rattle.std.specs.Float.Ieee.{of_bits};
@@ -15,7 +17,7 @@ const SIGN: u32 = 0x8000_0000;
 const INFINITY: u32 = 0x7f80_0000;
 
 // A float among the words of a line, and the place after it. Where there is none, it is 0.
-#[derive(Drop)]
+#[derive(Clone, Copy)]
 pub struct FloatWord {
     pub value: f32,
     pub end: usize,
@@ -23,7 +25,7 @@ pub struct FloatWord {
 }
 
 // A dial among the words of a line, and the place after it. Where there is none, it is off.
-#[derive(Drop)]
+#[derive(Clone, Copy)]
 pub struct DialWords {
     pub dial: Dial,
     pub end: usize,
@@ -31,14 +33,14 @@ pub struct DialWords {
 }
 
 // What a word stands for as a float.
-#[derive(Drop)]
+#[derive(Clone, Copy)]
 enum FloatValue {
     Float(f32),
     NoFloat,
 }
 
 // The commands of the dial.
-#[derive(Drop)]
+#[derive(Clone, Copy)]
 enum DialCommand {
     Off,
     Mix,

@@ -1,5 +1,7 @@
 // The reference frames of document 01. The starred ones are proved: specs/Starred.antt. This program runs the others and prints what
 // the calls give; the file stdout beside src/ holds what that must be. The one for `balance` is run by that program itself.
+#![tactic(auto)]
+
 ghost use Rattle.std.specs.Prelude.{◌≡◌, cond, ◌+◌, ◌-◌, ◌≤◌};
 ghost use Rattle.pixel.specs.Move.{intensity};
 ghost use Rattle.pixel.specs.Strip.{pixels_of};
@@ -109,7 +111,7 @@ fn pixel_of_each_intensity() -> [u8; EACH_INTENSITY] {
 }
 
 // How a coloured strip came out: its black pixels, its white ones, and the pixels before the first white one.
-#[derive(Drop)]
+#[derive(Clone, Copy)]
 struct Tones {
     black: u64,
     white: u64,
@@ -140,7 +142,7 @@ fn tones_of(strip: &[u8]) -> Tones
 }
 
 // The answers to a flat shot's calls, and how a pixel of each intensity came out.
-#[derive(Drop)]
+#[derive(Clone, Copy)]
 struct FlatShot {
     measured: u32,
     fixed: u32,

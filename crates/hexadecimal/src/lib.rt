@@ -1,4 +1,6 @@
 // Bytes as hexadecimal digits, two to a byte, the high one first.
+#![tactic(auto)]
+
 ghost use Rattle.std.specs.Prelude.{◌≡◌, ◌+◌, ◌*◌, ◌/◌, ◌≤◌, ◌<◌, length};
 ghost use Rattle.text.specs.Text.{Writes};
 ghost use Rattle.hexadecimal.specs.Hexadecimal.{digit_value, digit_code, is_pairs, decoded, encoded};

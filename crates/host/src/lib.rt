@@ -1,4 +1,6 @@
 // The calls for the panel's host program, which is written in C (document 01, "The panel's host"). They keep nothing between calls.
+#![tactic(auto)]
+
 ghost use Rattle.std.specs.Prelude.{◌≡◌, true, []};
 ghost use Rattle.refusal.specs.Refusal.{first_of};
 ghost use Rattle.host.specs.Host.{curve_checks, curve_outcome, colour_checks, colour_outcome};

@@ -1,4 +1,6 @@
 // What the program `replay` does with a line of a script: the call, on one of four shots, and the text of its answer.
+#![tactic(auto)]
+
 ghost use Rattle.std.specs.Prelude.{◌≡◌, ◌≤◌, length};
 ghost use Rattle.hexadecimal.specs.Hexadecimal.{decoded};
 ghost use Rattle.pixel.specs.MoveOne.{moved_one};

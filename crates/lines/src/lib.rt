@@ -1,5 +1,7 @@
 // The lines along which samples move, held in fixed point. All pixels of one intensity go to one target, and their written samples then lie
 // on one line: making it takes at most one division, and a sample on it none.
+#![tactic(auto)]
+
 ghost use Rattle.std.specs.Prelude.{◌≡◌, ◌^◌, ◌<◌, ◌≤◌};
 ghost use Rattle.curve.specs.Curve.{EntriesInRange};
 ghost use Rattle.lines.specs.Line.{parts_at, sample_at, line_from, in_fixed_point, Holdable, IsLineOf, LinesOf};
@@ -25,7 +27,7 @@ const PERIODS: u64 = 1099511627776;
 const WHITE: u32 = 4278190080;
 
 // A line in fixed point: the parts that each step of the sample read adds, and those at the sample 0.
-#[derive(Drop)]
+#[derive(Clone, Copy)]
 pub struct FixedLine {
     pub slope: u32,
     pub offset: u32,

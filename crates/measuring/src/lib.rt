@@ -1,4 +1,6 @@
 // Measuring: a strip's pixels, counted by their intensities (document 01, "Measuring").
+#![tactic(auto)]
+
 ghost use Rattle.std.specs.Prelude.{◌≡◌, [], ◌∷◌};
 ghost use Rattle.tables.specs.Table.{tabulate};
 ghost use Rattle.pixel.specs.Strip.{pixels_of, pixel_from};

@@ -1,4 +1,6 @@
 // The header of a Netpbm P6 image, read and written (document 01, "Frames from a file"). No other crate knows its form.
+#![tactic(auto)]
+
 ghost use Rattle.std.specs.Prelude.{◌≡◌, ◌+◌, ◌*◌, ◌≤◌, length};
 ghost use Rattle.tables.specs.Table.{at};
 ghost use Rattle.text.specs.Text.{Writes};
@@ -19,7 +21,7 @@ pub const WRITTEN_LIMIT: usize = 19;
 const DIGIT_LIMIT: usize = 5;
 
 // What a header says: the picture's width and height, and where in the file its samples start.
-#[derive(Drop)]
+#[derive(Clone, Copy)]
 pub struct Header {
     pub width: u32,
     pub height: u32,
@@ -27,7 +29,7 @@ pub struct Header {
 }
 
 // The answer to reading one.
-#[derive(Drop)]
+#[derive(Clone, Copy)]
 pub enum Reading {
     Accepted(Header),
     // It is not of the right form, or ends early: 12.
@@ -39,7 +41,7 @@ pub enum Reading {
 }
 
 // A field of the header: its number and the place after it, or none where the field is malformed.
-#[derive(Drop)]
+#[derive(Clone, Copy)]
 enum Field {
     Number(u32, usize),
     NoNumber,

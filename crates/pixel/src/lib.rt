@@ -1,4 +1,6 @@
 // Moving a pixel to a target intensity (document 01, "Moving a pixel").
+#![tactic(auto)]
+
 ghost use Rattle.std.specs.Prelude.{◌≡◌, true, ◌+◌, ◌-◌, ◌*◌, ◌<◌, ◌≤◌, length};
 ghost use Rattle.refusal.specs.Refusal.{first_of};
 ghost use Rattle.rounding.specs.Near.{near};
@@ -11,14 +13,14 @@ ghost use Rattle.pixel.specs.Inner.{AtMostWhite};
 ghost use Rattle.pixel.specs.Moving.{Moving, PixelSample, MovingSample};
 
 // The two methods of source 004: 2.1 and 2.2.
-#[derive(Drop)]
+#[derive(Clone, Copy)]
 pub enum Method {
     NaikMurthy,
     YangLee,
 }
 
 // How a line counts its samples: up from black, or down from white.
-#[derive(Drop)]
+#[derive(Clone, Copy)]
 pub enum Direction {
     Up,
     Down,
@@ -26,7 +28,7 @@ pub enum Direction {
 
 // The line along which the samples of all pixels of one intensity move to one target: a sample at the distance x from `start` goes to
 // near(x × numerator / denominator), counted up from black or down from white.
-#[derive(Drop)]
+#[derive(Clone, Copy)]
 pub struct Line {
     pub direction: Direction,
     pub start: u64,
@@ -35,7 +37,7 @@ pub struct Line {
 }
 
 // Three samples, 0 to 255 each.
-#[derive(Drop)]
+#[derive(Clone, Copy)]
 pub struct Pixel {
     pub r: u8,
     pub g: u8,
@@ -43,7 +45,7 @@ pub struct Pixel {
 }
 
 // The answer of a single move: 0 or the refusal's number, and the pixel, black where refused.
-#[derive(Drop)]
+#[derive(Clone, Copy)]
 pub struct Moved {
     pub number: u32,
     pub pixel: Pixel,

@@ -1,4 +1,5 @@
 // The number of each refusal (document 01, "Who can cause which refusal"). 0 is "accepted".
+#![tactic(auto)]
 
 // The shot has been fixed already.
 pub const ALREADY_FIXED: u32 = 1;

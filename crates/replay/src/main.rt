@@ -1,6 +1,8 @@
 // The program `replay`: reads a script from standard input, makes its calls, and writes the answer of each to standard output. What a
 // line is read as, and what it is answered, is decided in `script` and `interpreter`. Only a line at a time is held, so a script may
 // have any length.
+#![tactic(auto)]
+
 ghost use Rattle.std.specs.Prelude.{◌≡◌, ◌<◌, ◌≤◌, true, false, length};
 ghost use Rattle.script.specs.Script.{line_of, HasCall};
 ghost use Rattle.answers.specs.Answers.{text_limit};
@@ -34,7 +36,7 @@ struct Progress {
 }
 
 // Where the bytes that were read end, and whether reading failed.
-#[derive(Drop)]
+#[derive(Clone, Copy)]
 struct Arrived {
     end: usize,
     failed: bool,

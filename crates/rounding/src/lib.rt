@@ -1,4 +1,6 @@
 // Rounded division.
+#![tactic(auto)]
+
 ghost use Rattle.std.specs.Prelude.{◌≡◌, ◌<◌, ◌^◌};
 ghost use Rattle.rounding.specs.Near.{near};
 

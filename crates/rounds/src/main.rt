@@ -9,6 +9,8 @@
 // The strip is a shot of its own: measured, fixed by choice 1, and coloured. Standard output gets the last colouring's number, a line feed,
 // and the destination, whose bytes were 0 before. What a call refuses is seen by that number: a strip that is not measured leaves the shot
 // without a pixel, and so not fixed (6). A wrong head and a strip that is too long are told on standard error, and nothing else is written.
+#![tactic(auto)]
+
 ghost use Rattle.std.specs.Prelude.{◌≡◌, ◌+◌, ◌*◌, length};
 ghost use Rattle.dial.specs.Dial.{IsExactly};
 ghost use Rattle.shot.specs.Shot.{coloured};

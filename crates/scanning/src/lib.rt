@@ -1,9 +1,11 @@
 // Bytes of one class that stand one after the other, as the white space or the digits of a text.
+#![tactic(auto)]
+
 ghost use Rattle.std.specs.Prelude.{◌≡◌, ◌+◌, drop};
 ghost use Rattle.scanning.specs.Scanning.{is_space, is_letter_from, is_hex_digit, in_class, run_length, same_bytes};
 
 // The classes of bytes that are looked for.
-#[derive(Drop)]
+#[derive(Clone, Copy)]
 pub enum Class {
     // White space.
     Space,

@@ -1,5 +1,7 @@
 // A line of a script for the program `replay`, and what it is read as: numbers, and places in the line. docs/CALLS.md has the form of
 // a script in words.
+#![tactic(auto)]
+
 ghost use Rattle.std.specs.Prelude.{◌≡◌};
 ghost use Rattle.script.specs.Script.{once, open_at, measure_at, fix_at, colour_at, move_at, name_of, named_at, call_at, with_times, repeated, text_line, line_of};
 
@@ -11,7 +13,7 @@ use words::{Due, Fault, Number, Verdict, Word};
 pub const LINE_LIMIT: usize = 65536;
 
 // A call as a line has it.
-#[derive(Drop)]
+#[derive(Clone, Copy)]
 pub enum Command {
     // The shot.
     Open(u32),
@@ -26,7 +28,7 @@ pub enum Command {
 }
 
 // What a line is read as.
-#[derive(Drop)]
+#[derive(Clone, Copy)]
 pub enum ScriptLine {
     // White space, or a comment, and nothing else.
     Blank,
@@ -36,7 +38,7 @@ pub enum ScriptLine {
 }
 
 // The names of the calls.
-#[derive(Drop)]
+#[derive(Clone, Copy)]
 enum Name {
     Open,
     Measure,

@@ -1,11 +1,13 @@
 // The settings of the strength dial (document 02, wish 1), in whole numbers, and the bytes of a mix and of off. (Held pixels are coloured by a
 // curve: see `colouring`.)
+#![tactic(auto)]
+
 ghost use Rattle.std.specs.Prelude.{◌≡◌, ◌≤◌, length};
 ghost use Rattle.settings.specs.Setting.{mixed};
 ghost use Rattle.settings.specs.Inner.{mixed_bytes};
 
 // A command of the panel's dial, decoded: off; mix with an amount of k / 256, k from 0 to 256; or hold at an intensity, 0 to 765.
-#[derive(Drop)]
+#[derive(Clone, Copy)]
 pub enum Setting {
     Off,
     Mix(u32),

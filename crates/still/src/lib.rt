@@ -1,4 +1,6 @@
 // The whole job of one still picture (document 01, "Frames from a file"): from the bytes of a file to the bytes to write.
+#![tactic(auto)]
+
 ghost use Rattle.std.specs.Prelude.{◌≡◌, ◌≤◌, length, replicate};
 ghost use Rattle.refusal.specs.Refusal.{first_of};
 ghost use Rattle.text.specs.Text.{Writes};

@@ -1,4 +1,6 @@
 // The tone curve of a strip taken as a whole shot (document 01, "The panel's host"): for callers that keep no shot.
+#![tactic(auto)]
+
 ghost use Rattle.std.specs.Prelude.{◌≡◌};
 ghost use Rattle.refusal.specs.Refusal.{first_of};
 ghost use Rattle.strip_curve.specs.OneStrip.{strip_checks, strip_curve};

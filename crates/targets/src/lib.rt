@@ -1,4 +1,6 @@
 // The cube's targets: G(k) is 6 × 255³ times the share of the RGB cube whose intensity is at most k / 255.
+#![tactic(auto)]
+
 ghost use Rattle.std.specs.Prelude.{◌≡◌};
 ghost use Rattle.tables.specs.Table.{tabulate};
 ghost use Rattle.targets.specs.Cube.{G};

@@ -1,4 +1,6 @@
 // Text in lent runs of bytes; decimal numbers, read and written.
+#![tactic(auto)]
+
 ghost use Rattle.std.specs.Prelude.{◌≡◌, true, ◌+◌, ◌-◌, ◌≤◌, ◌<◌, length};
 ghost use Rattle.text.specs.Text.{Writes};
 ghost use Rattle.text.specs.Decimal.{zero_code, is_digit, Digits, value, decimal};

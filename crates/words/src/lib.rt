@@ -1,4 +1,6 @@
 // The words of a line of a script: white space, numbers, and bytes in hexadecimal digits.
+#![tactic(auto)]
+
 ghost use Rattle.std.specs.Prelude.{◌≡◌};
 ghost use Rattle.words.specs.Words.{word_at, number_of, first_bad, good_if, number_at, is_shot, shot_at, is_strip, is_pixel, verdict_of, digits_at, end_at};
 
@@ -14,14 +16,14 @@ const DIGIT_LIMIT: usize = 10;
 const LARGEST: u64 = 4294967295;
 
 // Where a word stands in its line: from `start` up to `end`, the place after it. Where none is left, the two are one.
-#[derive(Drop)]
+#[derive(Clone, Copy)]
 pub struct Word {
     pub start: usize,
     pub end: usize,
 }
 
 // Why a line is no call.
-#[derive(Drop)]
+#[derive(Clone, Copy)]
 pub enum Fault {
     // The line has more bytes than a line may have.
     TooLong,
@@ -46,14 +48,14 @@ pub enum Fault {
 }
 
 // Whether a word is what is due at its place.
-#[derive(Drop)]
+#[derive(Clone, Copy)]
 pub enum Verdict {
     Good,
     Bad(Fault),
 }
 
 // A number among the words of a line, and the place after it. Where there is none, it is 0.
-#[derive(Drop)]
+#[derive(Clone, Copy)]
 pub struct Number {
     pub value: u32,
     pub end: usize,
@@ -61,21 +63,21 @@ pub struct Number {
 }
 
 // Bytes among the words of a line.
-#[derive(Drop)]
+#[derive(Clone, Copy)]
 pub struct Digits {
     pub word: Word,
     pub verdict: Verdict,
 }
 
 // The bytes that are due at a place.
-#[derive(Drop)]
+#[derive(Clone, Copy)]
 pub enum Due {
     Strip,
     Pixel,
 }
 
 // What a word stands for as a number.
-#[derive(Drop)]
+#[derive(Clone, Copy)]
 enum Value {
     Number(u32),
     NoNumber,

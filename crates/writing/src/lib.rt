@@ -1,4 +1,6 @@
 // Writing a pixel along its line into a lent run of bytes.
+#![tactic(auto)]
+
 ghost use Rattle.std.specs.Prelude.{[], ◌∷◌, ◌+◌, ◌/◌, ◌^◌, ◌<◌, length};
 ghost use Rattle.pixel.specs.Move.{each_sample};
 ghost use Rattle.pixel.specs.Strip.{bytes_of};

@@ -1,0 +1,6 @@
+-- `measuring::added` meets its contract.
+use Rattle.tables.proofs.Filling.{filled_end}
+use Rattle.measuring.proofs.added.Goals as goal
+
+pub returns : goal.returns
+returns c = filled_end _ 766 _ c.loop-s.invariant c.loop-s-test.false

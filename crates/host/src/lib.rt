@@ -1,4 +1,5 @@
-// The calls for the panel's host program, which is written in C (document 01, "The panel's host"). They keep nothing between calls.
+// The calls for the panel's host program, which is written in C (document 01, "The panel's host"). They keep nothing between calls. The crate
+// `host_c` hands them to C.
 #![tactic(auto)]
 
 ghost use Rattle.std.specs.Prelude.{◌≡◌, true, []};
@@ -38,9 +39,8 @@ fn colour_refusal(ruled: bool, known: bool, whole: bool, same: bool) -> u32
 }
 
 // Writes the tone curve of the strip, taken as a whole shot, as 1,532 bytes. Refused: 4, 10, 2, 5, 3.
-#[unsafe(no_mangle)]
-pub extern "C" fn cube_balance_curve(strip: &[u8], choice: u32, curve: &mut [u8]) -> u32
-    ensures { curve_outcome (record { strip = strip.entry.now; choice = choice; curve = curve.old }) ≡ record { number = result; bytes = curve.new } }
+pub fn cube_balance_curve(strip: &[u8], choice: u32, curve: &mut [u8]) -> u32
+    ensures { curve_outcome (record { strip = strip.now; choice = choice; curve = curve.old }) ≡ record { number = result; bytes = curve.new } }
 {
     let number = curve_refusal(
         curve::is_choice(choice),
@@ -59,14 +59,13 @@ pub extern "C" fn cube_balance_curve(strip: &[u8], choice: u32, curve: &mut [u8]
 }
 
 // Colours the source into the destination by a curve of 1,532 bytes. Refused: 10, 11, 7, 2, 8.
-#[unsafe(no_mangle)]
-pub extern "C" fn cube_balance_colour(
+pub fn cube_balance_colour(
     curve: &[u8],
     method: u32,
     source: &[u8],
     destination: &mut [u8],
 ) -> u32
-    ensures { colour_outcome (record { curve = curve.entry.now; method = method; source = source.now; destination = destination.old }) ≡ record { number = result; bytes = destination.new } }
+    ensures { colour_outcome (record { curve = curve.now; method = method; source = source.now; destination = destination.old }) ≡ record { number = result; bytes = destination.new } }
 {
     if curve.len() != curve_bytes::CURVE_LENGTH {
         return refusal::CURVE_LENGTH_WRONG;

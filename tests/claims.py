@@ -23,14 +23,16 @@ DECLARED = re.compile(r"(?:pub )?(record|data) (\S+)(?: \{[^}]*\})? : (.*?)(?: w
 USED = re.compile(r"(?:(?:unfoldable|pub) )*use (\S+)\.\{(.*)\}")
 BLOCK = re.compile(r"(?:(?:unfoldable|abbrev|pub) )*(?:mutual|module)\b")
 UNIVERSE = re.compile(r"\bType\b(?! 0(?![\w+]))")
-OWN = re.compile(r"Rattle·(\w+)(?:·specs)?\.specs\.(.+)")
+OWN = re.compile(r"Rattle\.(\w+)\.specs\.(.+)")
 BUILT_IN = {
-    ("Prim.Native.Nat", "ℕ"): 0,
+    ("Rattle.std.specs.Prelude", "ℕ"): 0,
+    ("Rattle.std.specs.Prelude", "Bool"): 0,
+    ("Rattle.std.specs.Prelude", "List"): 1,
+    ("Rattle.std.specs.Prelude", "Option"): 1,
+    ("Rattle.std.proofs.Math.Option", "Option"): 1,
     ("Prim.Native.Char", "Char"): 0,
     ("Prim.Native.String", "String"): 0,
-    ("mathlib.Core.Bool", "Bool"): 0,
     ("mathlib.Core.List", "List"): 1,
-    ("mathlib.Core.Option", "Option"): 1,
 }
 
 
@@ -176,8 +178,6 @@ def claims_of(files):
             own = OWN.fullmatch(module)
             if own and own.group(2) == f"declared.{name}":
                 return 0
-            if own:
-                module = f"Rattle·{own.group(1)}.specs.{own.group(2)}"
             return 0 if (module, name) in data or (module, name) == itself else BUILT_IN.get((module, name))
 
         return wants
@@ -214,8 +214,6 @@ def proof_faults(text, module, claim, proof):
     found = []
     if (proof, claim) not in stated or not any(re.match(rf"(?:\w+ )*pub {re.escape(proof)} : ", text) for text in texts):
         found.append(f"has no `pub {proof} : {claim}`")
-    own = OWN.fullmatch(module)
-    module = f"Rattle·{own.group(1)}·specs.specs.{own.group(2)}"
     used = [use.groups() for use in map(USED.fullmatch, texts) if use]
     if not any(name == module and claim in map(str.strip, names.split(",")) for name, names in used):
         found.append(f"does not bring {claim} in from {module}")
@@ -251,8 +249,8 @@ def file_faults(crate, file, claims):
 
 PREDICATE = "abbrev pub Even : ℕ → Type 0\nEven n = n ≡ n\n\n"
 HEADER = (
-    "use Prim.Native.Nat.{ℕ, _+_}\nuse mathlib.Core.List.{List, []}\nuse mathlib.Core.Option.{Option}\n"
-    "use Rattle·c·specs.specs.declared.Pixel.{Pixel}\nuse Rattle·d.specs.Other.{Fraction as Part, Stated}\n\n"
+    "use Rattle.std.specs.Prelude.{ℕ, ◌+◌, List, []}\nuse Rattle.std.proofs.Math.Option.{Option}\n"
+    "use Rattle.c.specs.declared.Pixel.{Pixel}\nuse Rattle.d.specs.Other.{Fraction as Part, Stated}\n\n"
 )
 # Each text with what it claims; what once slipped through is among them.
 SNIPPETS = (
@@ -309,10 +307,10 @@ UNREAD = (
     "pub A : Type (0 + 1)\n",
 )
 # Files of proofs/ for the claim `A` of `Snippet` and its proof `a`, and whether they will do.
-USE = "use Rattle·c·specs.specs.Snippet.{B, A}\n\n"
+USE = "use Rattle.c.specs.Snippet.{B, A}\n\n"
 PROOFS = (
     (USE + "pub a : A\na = b\n", True),
-    ("use Rattle·c·specs.specs.Snippet.{B,\n    A}\n\n-- a comment\npub a :\n    A -- another\na = b\n", True),
+    ("use Rattle.c.specs.Snippet.{B,\n    A}\n\n-- a comment\npub a :\n    A -- another\na = b\n", True),
     ("", False),
     (USE, False),
     ("pub a : A\na = b\n", False),
@@ -321,8 +319,8 @@ PROOFS = (
     (USE + "pub a : A\n    → B\na c = b\n", False),
     (USE + "pub a : A 3\na = b\n", False),
     (USE + "pub b : A\nb = b\n", False),
-    ("use Rattle·c·specs.specs.Other.{A}\n\npub a : A\na = b\n", False),
-    ("use Rattle·c·specs.specs.Snippet.{A as C, B as A}\n\npub a : A\na = b\n", False),
+    ("use Rattle.c.specs.Other.{A}\n\npub a : A\na = b\n", False),
+    ("use Rattle.c.specs.Snippet.{A as C, B as A}\n\npub a : A\na = b\n", False),
     (USE + "abbrev A : Type 0\nA = B\n\npub a : A\na = b\n", False),
     (USE + "record A : Type 0 where\n  b : B\n\npub a : A\na = b\n", False),
 )
@@ -331,17 +329,17 @@ OTHER = "pub record Fraction : Type 0 where\n  pub num : ℕ\n\npub record State
 
 def selftest():
     """The claims of each snippet are found, and no other, and what is wrong with a proof."""
-    other = File("Rattle·d.specs.Other", HEADER + OTHER)
+    other = File("Rattle.d.specs.Other", HEADER + OTHER)
     for text, due in SNIPPETS:
-        file = File("Rattle·c.specs.Snippet", HEADER + PREDICATE + text)
+        file = File("Rattle.c.specs.Snippet", HEADER + PREDICATE + text)
         found = claims_of([file, other])[file.module]
         if found != due or file.faults:
             sys.exit(f"claims.py finds {sorted(found)} in place of {sorted(due)}, {file.faults}, in:\n{text}")
     for text in UNREAD:
-        if not File("Rattle·c.specs.Snippet", text).faults:
+        if not File("Rattle.c.specs.Snippet", text).faults:
             sys.exit(f"claims.py takes for read:\n{text}")
     for text, good in PROOFS:
-        found = proof_faults(text, "Rattle·c.specs.Snippet", "A", "a")
+        found = proof_faults(text, "Rattle.c.specs.Snippet", "A", "a")
         if (not found) != good:
             sys.exit(f"claims.py finds {found} in:\n{text}")
     print(f"claims: {len(SNIPPETS) + len(UNREAD) + len(PROOFS)} snippets: ok")
@@ -353,7 +351,7 @@ def read_specs():
     for path in sorted(pathlib.Path("crates").glob("*/specs/**/*.antt")):
         crate = pathlib.Path(*path.parts[:2])
         module = ".".join(path.relative_to(crate / "specs").with_suffix("").parts)
-        files[path] = crate, File(f"Rattle·{crate.name}.specs.{module}", path.read_text(encoding="utf-8"))
+        files[path] = crate, File(f"Rattle.{crate.name}.specs.{module}", path.read_text(encoding="utf-8"))
     return files
 
 

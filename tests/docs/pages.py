@@ -101,6 +101,11 @@ def table(path, first):
     return fitting[0]
 
 
+def listed(text):
+    """The crates of crates.txt, in its order."""
+    return re.findall(r"^(\w+)(?: \w+)*:", text, re.M)
+
+
 def report(name, count, faults):
     """Prints the faults and what was looked at; the exit status."""
     for fault in faults:

@@ -13,7 +13,7 @@ from typing import NamedTuple
 
 sys.path.insert(0, "tests")
 from claims import claims_of, read_specs  # noqa: E402
-from pages import DOCS, SPAN, read, report, spans, table  # noqa: E402
+from pages import DOCS, SPAN, listed, read, report, spans, table  # noqa: E402
 
 PAGE = DOCS / "PROMISES.md"
 CRATES = pathlib.Path("crates")
@@ -23,7 +23,7 @@ CALL = re.compile(r"(?:(\w+)(?:::|\.))(\w+)\(([^)]*)\)")
 
 
 def crate_order():
-    return re.findall(r"^(\w+):", pathlib.Path("crates.txt").read_text(encoding="utf-8"), re.M)
+    return listed(read(pathlib.Path("crates.txt")))
 
 
 def is_inner(path):
@@ -67,9 +67,8 @@ class Contract(NamedTuple):
 
 def body(text):
     """A contract's statement as the page writes it: what a run held at the start by its name, and a shot for `self`."""
-    text = re.sub(r"^\{ (?:λ \w+\. )?⌜ | ⌝ \}$", "", text.strip())
-    text = re.sub(r"\bnow \((\w+) \.entry\)|\bnow (\w+)", r"\1\2", text)
-    text = re.sub(r"\((\w+)\)", r"\1", re.sub(r"\bnow \((\w+) \.exit\)", r"\1 .exit", text))
+    text = re.sub(r"^(?:\w+ )?\{ | \}$", "", text.strip())
+    text = re.sub(r"\b(\w+)(?:\.entry)?\.(?:now|old)\b", r"\1", text)
     return re.sub(r"\bself\b", "shot", text)
 
 
@@ -117,7 +116,7 @@ def says(span, statement):
     """Whether a statement is that the result, or the record of result and lent bytes, is equal to a definition. A `call` or `request` is
     the record of a call's arguments."""
     head = re.sub(r"\\ (?:call|request)$", r"\\ \\(record \\{[^}]*\\}\\)", re.escape(span))
-    return re.fullmatch(rf"r ≡ {head}|{head} ≡ record \{{ \w+ = r; \w+ = \w+ \.exit \}}", statement) is not None
+    return re.fullmatch(rf"result ≡ {head}|{head} ≡ record \{{ \w+ = result; \w+ = \w+\.new \}}", statement) is not None
 
 
 def equality_faults(row, calls, known):
@@ -197,21 +196,23 @@ def field_faults():
 def selftest():
     """A wrong row is told from a right one."""
     known = {
-        ("shot", "fix"): Contract(["choice"], ["Reachable shot"], [body("{ λ r. ⌜ r ≡ fixedWith self choice ⌝ }")]),
-        ("shot", "mend"): Contract(["choice"], ["Reachable shot"], [body("{ λ r. ⌜ r .number ≡ fixedWith self choice .number ⌝ }")]),
-        ("host", "c"): Contract(["run"], [], [body("{ λ r. ⌜ made (record { a = now run }) ≡ record { n = r; b = now (run .exit) } ⌝ }")]),
-        ("a", "f"): Contract(["n"], [], ["r ≡ near n 2"]),
+        ("shot", "fix"): Contract(["choice"], ["Reachable shot"], [body("value { result ≡ fixed_with self choice }")]),
+        ("shot", "mend"): Contract(["choice"], ["Reachable shot"], [body("{ result.number ≡ (fixed_with self choice).number }")]),
+        ("host", "c"): Contract(["run"], [], [body("{ made (record { a = run.old }) ≡ record { n = result; b = run.new } }")]),
+        ("host", "d"): Contract(["run"], [], [body("{ made (record { a = run.old }) ≡ record { n = result; b = run.old } }")]),
+        ("a", "f"): Contract(["n"], [], ["result ≡ near n 2"]),
     }
     for row, check, due in (
-        (["`shot.fix(choice)`", "`fixedWith shot choice`", "`Reachable shot`"], equality_faults, 0),
-        (["`shot.fix(choice)`", "`fixedWith shot choice`", ""], equality_faults, 1),
-        (["`shot.fix(choice)`", "`fixedWith shot choice`", "Nothing"], equality_faults, 1),
-        (["`shot.fix(method)`", "`fixedWith shot choice`", "`Reachable shot`"], equality_faults, 1),
+        (["`shot.fix(choice)`", "`fixed_with shot choice`", "`Reachable shot`"], equality_faults, 0),
+        (["`shot.fix(choice)`", "`fixed_with shot choice`", ""], equality_faults, 1),
+        (["`shot.fix(choice)`", "`fixed_with shot choice`", "Nothing"], equality_faults, 1),
+        (["`shot.fix(method)`", "`fixed_with shot choice`", "`Reachable shot`"], equality_faults, 1),
         (["`shot.fix(choice)`", "`measured shot choice`", "`Reachable shot`"], equality_faults, 1),
-        (["`shot.mend(choice)`", "`fixedWith shot choice`", "`Reachable shot`"], equality_faults, 1),
-        (["`shot.break(choice)`", "`fixedWith shot choice`", "`Reachable shot`"], equality_faults, 1),
+        (["`shot.mend(choice)`", "`fixed_with shot choice`", "`Reachable shot`"], equality_faults, 1),
+        (["`shot.break(choice)`", "`fixed_with shot choice`", "`Reachable shot`"], equality_faults, 1),
         (["`host::c(run)`", "`made call`", ""], equality_faults, 0),
         (["`host::c(run)`", "`made run`", ""], equality_faults, 1),
+        (["`host::d(run)`", "`made call`", ""], equality_faults, 1),
         (["`a::f(number)`", "`near number 2`", ""], other_faults, 0),
         (["`a::f(number)`", "`near number 3`", ""], other_faults, 1),
         (["`a::f(number)`", "`near`", "n is small"], other_faults, 1),

@@ -16,21 +16,21 @@ CALLS, RULES, PROMISES = DOCS / "CALLS.md", DOCS / "RULES.md", DOCS / "PROMISES.
 HEADER = pathlib.Path("include/cube_balance.h")
 # for each call, the definitions whose checks it makes, one after the other
 CHECKS = {
-    "measure": [("shot/specs/Shot.antt", "measureChecks")],
-    "fix": [("shot/specs/Shot.antt", "fixChecks")],
-    "colour": [("shot/specs/Shot.antt", "colourChecks")],
-    "move_one": [("pixel/specs/MoveOne.antt", "moveChecks")],
-    "cube_balance_curve": [("host/specs/Host.antt", "curveChecks"), ("strip_curve/specs/OneStrip.antt", "stripChecks")],
-    "cube_balance_colour": [("host/specs/Host.antt", "colourChecks")],
-    "balance": [("netpbm/specs/Header.antt", "numberOf"), ("still/specs/Still.antt", "sampleChecks")],
+    "measure": [("shot/specs/Shot.antt", "measure_checks")],
+    "fix": [("shot/specs/Shot.antt", "fix_checks")],
+    "colour": [("shot/specs/Shot.antt", "colour_checks")],
+    "move_one": [("pixel/specs/MoveOne.antt", "move_checks")],
+    "cube_balance_curve": [("host/specs/Host.antt", "curve_checks"), ("strip_curve/specs/OneStrip.antt", "strip_checks")],
+    "cube_balance_colour": [("host/specs/Host.antt", "colour_checks")],
+    "balance": [("netpbm/specs/Header.antt", "number_of"), ("still/specs/Still.antt", "sample_checks")],
 }
 ORDINALS = ["1st", "2nd", "3rd", "4th", "5th", "6th"]
 # limits: the file and the definition, and the pages that give it in figures
 LIMITS = {
-    "pixelLimit": ("measuring/specs/Histogram.antt", [CALLS, RULES]),
-    "areaLimit": ("netpbm/specs/Header.antt", [CALLS, RULES, README]),
-    "headerLimit": ("netpbm/specs/Header.antt", [RULES]),
-    "curveLength": ("curve_bytes/specs/CurveBytes.antt", [CALLS, RULES]),
+    "pixel_limit": ("measuring/specs/Histogram.antt", [CALLS, RULES]),
+    "area_limit": ("netpbm/specs/Header.antt", [CALLS, RULES, README]),
+    "header_limit": ("netpbm/specs/Header.antt", [RULES]),
+    "curve_length": ("curve_bytes/specs/CurveBytes.antt", [CALLS, RULES]),
 }
 
 
@@ -74,7 +74,7 @@ def named():
     """The numbers of the crate `refusal`: name, number, and what its comment says, with the limits in figures."""
     values = limits()
     for words, name, number in re.findall(r"^// (.+)\.\npub const (\w+): u32 = (\d+);$", read(CRATES / "refusal/src/lib.rt"), re.M):
-        limit = values["areaLimit" if name == "AREA_OUT_OF_RANGE" else "pixelLimit"]
+        limit = values["area_limit" if name == "AREA_OUT_OF_RANGE" else "pixel_limit"]
         yield number, name, words[0].lower() + words[1:].replace("the limit", f"{limit:,}")
 
 
@@ -144,7 +144,7 @@ def limit_faults():
     """The limits that a page does not give."""
     values = limits()
     # the largest file that is accepted, and what is read of a longer one
-    largest = values["headerLimit"] + 3 * values["areaLimit"]
+    largest = values["header_limit"] + 3 * values["area_limit"]
     due = [(values[name], page) for name, (_, pages) in LIMITS.items() for page in pages]
     for value, page in [*due, (largest, PROMISES), (largest + 1, PROMISES)]:
         if not re.search(rf"(?<![\d,]){value:,}(?![\d,])", read(page)):
@@ -153,12 +153,12 @@ def limit_faults():
 
 def selftest():
     """Orders are read as they stand."""
-    text = "abbrev pub aChecks : Bool → List Check\naChecks x = x refuses 4 ∷ not x refuses 10 ∷ []\n\nb = y refuses 9\n"
-    if checked(text, "aChecks") != [4, 10]:
-        sys.exit(f"calls.py reads {checked(text, 'aChecks')}")
+    text = "abbrev pub a_checks : Bool → List Check\na_checks x = x refuses 4 ∷ not x refuses 10 ∷ []\n\nb = y refuses 9\n"
+    if checked(text, "a_checks") != [4, 10]:
+        sys.exit(f"calls.py reads {checked(text, 'a_checks')}")
     if checked("pub n : R → ℕ\nn A = 0\nn B = 12\nn C = 13\n", "n") != [12, 13]:
         sys.exit("calls.py does not read the numbers of cases")
-    if checked(text, "cChecks"):
+    if checked(text, "c_checks"):
         sys.exit("calls.py reads a definition that is not there")
 
 

@@ -21,22 +21,22 @@ def first_words(rows):
 
 def word_faults(rows, specs):
     """Whether the table has the names of the calls, in their order, and then repeat."""
-    due = [*re.findall(r'"(\w+)" means', specs), *re.findall(r'wordIn line word\) \(ascii "(\w+)"\)', specs)]
+    due = [*re.findall(r'"(\w+)" means', specs), *re.findall(r'word_in line word\) \(ascii "(\w+)"\)', specs)]
     return [] if first_words(rows) == due and len(due) > 1 else [f"{PAGE}: the lines begin with {first_words(rows)}, and specs/ have {due}"]
 
 
 def reason_faults(rows, specs):
     """Whether the table has the reasons, each once."""
-    due = sorted(re.findall(r'^reasonText \w+ = ascii "(.+)"$', specs, re.M))
+    due = sorted(re.findall(r'^reason_text \w+ = ascii "(.+)"$', specs, re.M))
     named = sorted(row[0].strip("`") for row in rows)
     return [] if named == due and due else [f"{PAGE}: the reasons are {named}, and specs/ have {due}"]
 
 
 def limits():
     """What the page has to say of limits, by specs/."""
-    line = int(re.search(r"^lineLimit = (\d+)$", read(SCRIPT), re.M).group(1))
-    last = re.search(r"^isShot number = leb 1 number && leb number (\d)$", read(WORDS), re.M).group(1)
-    digits, bits = re.search(r"leb \(length word\) (\d+) &&.* ltb \(value word\) \(2 \^ (\d+)\)", read(WORDS)).groups()
+    line = int(re.search(r"^line_limit = (\d+)$", read(SCRIPT), re.M).group(1))
+    last = re.search(r"^is_shot number = (?:leb|nat_le) 1 number && (?:leb|nat_le) number (\d)$", read(WORDS), re.M).group(1)
+    digits, bits = re.search(r"(?:leb|nat_le) \(length word\) (\d+) &&.* (?:ltb|nat_lt) \(value word\) \(2 \^ (\d+)\)", read(WORDS)).groups()
     largest = 2 ** int(bits) - 1
     return (
         f"at most {line:,} bytes",
@@ -60,7 +60,7 @@ def worked_faults(text):
 
 def selftest():
     """What is wrong is found."""
-    specs = '"open" means IsOpen ∷ "fix" means IsFix\n(sameBytes (wordIn line word) (ascii "repeat"))\nreasonText A = ascii "no"\n'
+    specs = '"open" means IsOpen ∷ "fix" means IsFix\n(same_bytes (word_in line word) (ascii "repeat"))\nreason_text A = ascii "no"\n'
     rows = [["`open SHOT`"], ["`fix SHOT`"], ["`repeat N`, and"]]
     if word_faults(rows, specs) or not word_faults(rows[:2], specs) or not word_faults(rows[::-1], specs):
         sys.exit("scripts.py does not tell wrong words from right ones")

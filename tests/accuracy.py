@@ -233,7 +233,7 @@ def tolerances():
     """Steps, sum and below of specs/, at the full balance and under a mix, and whether its formulas are those of the page."""
     own, under = ((CRATES / crate / "specs" / "Accuracy.antt").read_text(encoding="utf-8") for crate in ("pixel", "settings"))
     full = re.search(r"^mission = record \{ steps = (\d+); sum = whole (\d+); below = (\d+) \}$", own, re.M)
-    mix_ = re.search(r"^mixTolerance = record \{ steps = (\d+); sum = (\d+) over (\d+); below = (\d+) \}$", under, re.M)
+    mix_ = re.search(r"^mix_tolerance = record \{ steps = (\d+); sum = (\d+) over (\d+); below = (\d+) \}$", under, re.M)
     if not full or not mix_ or any(f'-- "{formula}"' not in under for formula in (MIXED_FACTOR, MIXED_INTENSITY)):
         sys.exit("specs/ do not give the tolerances, or the mixed factor and intensity, as expected")
     steps, over, of, below = map(int, mix_.groups())

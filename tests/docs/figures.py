@@ -103,8 +103,8 @@ def tolerance_sentences():
     accuracy, hue = read(CRATES / "pixel/specs/Accuracy.antt"), read(CRATES / "key/specs/Hue.antt")
     mission = re.search(r"^mission = record \{ steps = (\d+); sum = whole (\d+); below = (\d+) \}$", accuracy, re.M)
     settings = read(CRATES / "settings/specs/Accuracy.antt")
-    mix = re.search(r"^mixTolerance = record \{ steps = (\d+); sum = (\d+) over (\d+); below = (\d+) \}$", settings, re.M)
-    bound = re.search(r"^hueBound n c = \((\d+) \* n\) over c$", hue, re.M)
+    mix = re.search(r"^mix_tolerance = record \{ steps = (\d+); sum = (\d+) over (\d+); below = (\d+) \}$", settings, re.M)
+    bound = re.search(r"^hue_bound n c = \((\d+) \* n\) over c$", hue, re.M)
     if not mission or not mix or not bound:
         raise SystemExit("specs/ do not give the tolerance, or the hue bound, in figures")
     steps, most, below = map(int, mission.groups())

@@ -25,7 +25,7 @@
 /* The longest strip that the program takes, as a frame of 512 × 256, and the length of the head before it. */
 enum { WIDTH = 512, HEIGHT = 256, PIXELS = WIDTH * HEIGHT, LENGTH = 3 * PIXELS, HEAD = 8 };
 
-static char PROGRAM[] = "target/bin/rounds";
+static char PROGRAM[] = "crates/rounds/out/rounds";
 
 enum kind { OFF, MIX, HOLD };
 

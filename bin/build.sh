@@ -15,30 +15,32 @@ fail() {
     exit 1
 }
 
-# Whether a product is missing, or older than a source, a folder of sources (a source came or went) or the list of crates.
+# Whether a product is missing, or older than a source, a folder of sources (a source came or went) or the list of crates. What rt makes
+# stands in a crate's out/, and is no source; nor is the crate's own folder, in which rt makes and removes that one.
 stale() {
     local newer
     [ -f "$1" ] || return 0
-    newer=$(find crates crates.txt -newer "$1" -print -quit) || fail "the sources of $1 cannot be looked through"
+    newer=$(find crates crates.txt -regex 'crates/[^/]*/out' -prune -o ! -regex 'crates/[^/]*' -newer "$1" -print -quit) ||
+        fail "the sources of $1 cannot be looked through"
     [ -n "$newer" ]
 }
 
-# bring_up_to_date PRODUCT MADE WORD...: builds the product where it is stale. rt, called with the words, leaves the file MADE; the
-# product is that file or a copy of it.
+# bring_up_to_date PRODUCT CRATE MADE WORD...: builds the product where it is stale. rt, called with the words in the crate's folder, leaves
+# the file MADE there, in out/; the product is that file or a copy of it.
 bring_up_to_date() {
-    local product=$1 made=$2 started said
-    shift 2
+    local product=$1 crate=crates/$2 made=crates/$2/out/$3 started said
+    shift 3
     stale "$product" || return 0
     command -v rt >/dev/null || fail "$product has to be built, and rt is not on the path.
 Put the Rattle kit's rt on the path; README.md, \"Try it\", says which kit was used."
     say "building $product, which takes one to three minutes"
     started=$(date +%s.%N)
-    # standard input is the program's, so rt gets none of it
-    if ! said=$(rt "$@" </dev/null 2>&1); then
+    # standard input is the program's, so rt gets none of it, nor does the program, which rt runs once it is built
+    if ! said=$(cd "$crate" && rt "$@" </dev/null 2>&1); then
         printf '%s\n' "$said" >&2
-        fail "rt $* failed"
+        fail "rt $* in $crate failed"
     fi
-    [ -f "$made" ] || fail "rt $* left no $made; remove target/ and try again"
+    [ -f "$made" ] || fail "rt $* left no $made; remove $crate/out and try again"
     if [ "$made" != "$product" ]; then
         # under another name first, so that a copy that was cut short is never taken for the product
         mkdir -p "$(dirname "$product")"
@@ -54,8 +56,8 @@ Put the Rattle kit's rt on the path; README.md, \"Try it\", says which kit was u
 start_program() {
     local name=${script#bin/} what=$1 use=$2 program
     shift 2
-    program=target/bin/$name
+    program=crates/$name/out/$name
     [ $# -eq 0 ] || fail "takes no argument, $what comes on standard input: $use"
-    bring_up_to_date "$program" "$program" check "$name"
+    bring_up_to_date "$program" "$name" "$name" run
     exec "$program"
 }

@@ -1,0 +1,8 @@
+-- `colouring::colour_held` meets its contract: every entry of the level curve is the held value.
+use Rattle.std.proofs.Common.{ℕ, ◌≤◌, subst, sym, arith}
+use lib.ListN.{get_or-replicate}
+use Rattle.colouring.proofs.colour_held.Goals as goal
+
+pub colour_strip-requires-clause-entries_in_range : goal.colour_strip-requires-clause-entries_in_range
+colour_strip-requires-clause-entries_in_range c =
+    λ s h. subst (λ (x : ℕ). x ≤ 765) (sym (get_or-replicate 766 s c.args.v 0 (omega arith))) c.requires.v_bound

@@ -2,15 +2,32 @@
 // All that is decided is decided in `still`.
 #![tactic(auto)]
 
-use libc::{STDERR_FILENO, STDIN_FILENO, STDOUT_FILENO};
+ghost use Rattle.std.specs.Prelude.{◌≤◌, length};
 
-fn main() {
+use std::io::Read;
+
+// Reads until buf is full, the input ends or a read fails, and hands back how many bytes it put at the start of buf.
+fn read_full(reader: &mut impl Read, buf: &mut [u8]) -> usize
+    ensures { result ≤ length buf.new }
+{
+    let mut done = 0;
+    while done < buf.len() {
+        let n = reader.read(&mut buf[done..]).unwrap_or(0);
+        if n == 0 {
+            break;
+        }
+        done += n;
+    }
+    done
+}
+
+fn main(rt: HostRuntime) {
     let mut file = still::input_buffer();
     let mut output = still::output_buffer();
-    let read = io::read_full(STDIN_FILENO, &mut file);
+    let read = read_full(&mut rt.stdin(), &mut file);
     let size = still::balance_file(&file[..read], &mut output);
-    if !io::write_all(STDOUT_FILENO, &output[..size]) {
-        // a program has no exit status, so this is all that can be done
-        io::write_all(STDERR_FILENO, b"balance: the output could not be written\n");
+    if rt.write_all(&output[..size]).is_err() {
+        // the exit status stays 0, so this is all that tells
+        let _ = eprintln!(rt; "balance: the output could not be written");
     }
 }

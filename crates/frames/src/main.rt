@@ -9,7 +9,6 @@ ghost use Rattle.shot.specs.Reachable.{Reachable};
 ghost use Rattle.frames.specs.Inner.{tones_of};
 
 use dial::Dial;
-use libc::STDOUT_FILENO;
 use pixel::{Moved, Pixel};
 use shot::{Answer, Shot};
 
@@ -22,32 +21,31 @@ const LONG_STRIP: usize = 12285;
 const LONG_STRIPS: u64 = 4097;
 
 // A space and n.
-fn print_number(n: u64) {
-    io::write_all(STDOUT_FILENO, b" ");
-    io::print_decimal(STDOUT_FILENO, n);
+fn print_number(rt: &impl Print, n: u64) {
+    let _ = print!(rt; " {n}");
 }
 
-fn print_pixel(p: Pixel) {
-    print_number(p.r as u64);
-    print_number(p.g as u64);
-    print_number(p.b as u64);
+fn print_pixel(rt: &impl Print, p: Pixel) {
+    print_number(rt, p.r as u64);
+    print_number(rt, p.g as u64);
+    print_number(rt, p.b as u64);
 }
 
 // A single move, on a line of its own: what it takes, then what it hands back.
-fn print_move(method: u32, p: Pixel, target: u32) {
-    io::write_all(STDOUT_FILENO, b"move by method");
-    print_number(method as u64);
-    io::write_all(STDOUT_FILENO, b" of");
-    print_pixel(p);
-    io::write_all(STDOUT_FILENO, b" to");
-    print_number(target as u64);
-    io::write_all(STDOUT_FILENO, b": number");
+fn print_move(rt: &impl Print, method: u32, p: Pixel, target: u32) {
+    let _ = print!(rt; "move by method");
+    print_number(rt, method as u64);
+    let _ = print!(rt; " of");
+    print_pixel(rt, p);
+    let _ = print!(rt; " to");
+    print_number(rt, target as u64);
+    let _ = print!(rt; ": number");
     let moved: Moved = pixel::move_one(method, p, target);
-    print_number(moved.number as u64);
-    io::write_all(STDOUT_FILENO, b", pixel");
+    print_number(rt, moved.number as u64);
+    let _ = print!(rt; ", pixel");
     let q = moved.pixel;
-    print_pixel(q);
-    io::write_all(STDOUT_FILENO, b"\n");
+    print_pixel(rt, q);
+    let _ = print!(rt; "\n");
 }
 
 // A new shot, with the premise of a shot's calls.
@@ -173,35 +171,35 @@ fn flat_shot(choice: u32) -> FlatShot {
 
 // That shot, on a line of its own. A pixel's place in the strip is its intensity, so the pixels before the first white one
 // give the intensity from which on they are white.
-fn print_flat_shot(choice: u32) {
-    io::write_all(STDOUT_FILENO, b"flat shot of sum 300 by choice");
-    print_number(choice as u64);
-    io::write_all(STDOUT_FILENO, b": numbers");
+fn print_flat_shot(rt: &impl Print, choice: u32) {
+    let _ = print!(rt; "flat shot of sum 300 by choice");
+    print_number(rt, choice as u64);
+    let _ = print!(rt; ": numbers");
     let flat = flat_shot(choice);
-    print_number(flat.measured as u64);
-    print_number(flat.fixed as u64);
-    print_number(flat.coloured as u64);
+    print_number(rt, flat.measured as u64);
+    print_number(rt, flat.fixed as u64);
+    print_number(rt, flat.coloured as u64);
     let tones = flat.tones;
-    io::write_all(STDOUT_FILENO, b", black");
-    print_number(tones.black);
-    io::write_all(STDOUT_FILENO, b", white");
-    print_number(tones.white);
-    io::write_all(STDOUT_FILENO, b", first white");
-    print_number(tones.before);
-    io::write_all(STDOUT_FILENO, b"\n");
+    let _ = print!(rt; ", black");
+    print_number(rt, tones.black);
+    let _ = print!(rt; ", white");
+    print_number(rt, tones.white);
+    let _ = print!(rt; ", first white");
+    print_number(rt, tones.before);
+    let _ = print!(rt; "\n");
 }
 
 // Measures a strip, on a line of its own: its length, then the number. Hands back the next shot.
-fn print_measure(shot: Shot, strip: &[u8]) -> Shot
+fn print_measure(rt: &impl Print, shot: Shot, strip: &[u8]) -> Shot
     requires { Reachable shot }
     ensures { Reachable result }
 {
-    io::write_all(STDOUT_FILENO, b"measure of length");
-    print_number(strip.len() as u64);
-    io::write_all(STDOUT_FILENO, b": number");
+    let _ = print!(rt; "measure of length");
+    print_number(rt, strip.len() as u64);
+    let _ = print!(rt; ": number");
     let answer = measure(shot, strip);
-    print_number(answer.number as u64);
-    io::write_all(STDOUT_FILENO, b"\n");
+    print_number(rt, answer.number as u64);
+    let _ = print!(rt; "\n");
     answer.shot
 }
 
@@ -230,40 +228,40 @@ fn fill(strip: &[u8], times: u64) -> Filled
 
 // The long strips fill a shot up to one pixel below its limit, and a line says how many of them it accepted. Then come two pixels,
 // one, and one more.
-fn print_limit() {
+fn print_limit(rt: &impl Print) {
     let strip = [100u8; LONG_STRIP];
     let filled = fill(&strip, LONG_STRIPS);
-    io::write_all(STDOUT_FILENO, b"measure of length");
-    print_number(LONG_STRIP as u64);
-    io::write_all(STDOUT_FILENO, b": accepted");
-    print_number(filled.accepted);
-    io::write_all(STDOUT_FILENO, b" times\n");
+    let _ = print!(rt; "measure of length");
+    print_number(rt, LONG_STRIP as u64);
+    let _ = print!(rt; ": accepted");
+    print_number(rt, filled.accepted);
+    let _ = print!(rt; " times\n");
     let shot = filled.shot;
-    let shot = print_measure(shot, &[1, 2, 3, 4, 5, 6]);
-    let shot = print_measure(shot, &[1, 2, 3]);
-    print_measure(shot, &[1, 2, 3]);
+    let shot = print_measure(rt, shot, &[1, 2, 3, 4, 5, 6]);
+    let shot = print_measure(rt, shot, &[1, 2, 3]);
+    print_measure(rt, shot, &[1, 2, 3]);
 }
 
-fn main() {
+fn main(rt: HostRuntime) {
     let p = Pixel {
         r: 100,
         g: 150,
         b: 200,
     };
     // Target 765 moves, 766 is refused 9.
-    print_move(1, p, 765);
-    print_move(1, p, 766);
-    print_move(2, p, 765);
-    print_move(2, p, 766);
+    print_move(&rt, 1, p, 765);
+    print_move(&rt, 1, p, 766);
+    print_move(&rt, 2, p, 765);
+    print_move(&rt, 2, p, 766);
     // The single move names 7 before 9.
-    print_move(3, p, 765);
-    print_move(3, p, 766);
+    print_move(&rt, 3, p, 765);
+    print_move(&rt, 3, p, 766);
     // All pixels of sum 300: entries 0 up to 299, 765 from 300.
-    print_flat_shot(1);
-    print_flat_shot(2);
+    print_flat_shot(&rt, 1);
+    print_flat_shot(&rt, 2);
     // Length 3 is measured, 4 refused 2.
-    print_measure(new_shot(), &[1, 2, 3]);
-    print_measure(new_shot(), &[1, 2, 3, 4]);
+    print_measure(&rt, new_shot(), &[1, 2, 3]);
+    print_measure(&rt, new_shot(), &[1, 2, 3, 4]);
     // From N = 16,777,215 one more pixel is measured, two are refused 3.
-    print_limit();
+    print_limit(&rt);
 }

@@ -10,9 +10,9 @@ ghost use Rattle.interpreter.specs.Interpreter.{AllReachable};
 ghost use Rattle.interpreter.specs.Scripts.{replies_to, line_reply};
 
 use interpreter::Shots;
-use libc::{STDERR_FILENO, STDIN_FILENO, STDOUT_FILENO};
 use scanning::Class;
 use script::{Command, ScriptLine};
+use std::io::{Read, Write};
 use words::Fault;
 
 // Room for a line and its line feed: what fills it without one is a line that is too long.
@@ -51,14 +51,15 @@ struct State {
 }
 
 // Writes so many bytes of the output.
-fn write_answer(output: &[u8], size: usize) -> bool
+fn write_answer(writer: &mut impl Write, output: &[u8], size: usize) -> bool
     requires { size ≤ length output.now }
 {
-    io::write_all(STDOUT_FILENO, &output[..size])
+    writer.write_all(&output[..size]).is_ok()
 }
 
 // Makes a line's calls, one after the other.
 fn make_calls(
+    writer: &mut impl Write,
     shots: Shots,
     lines: u64,
     times: u32,
@@ -77,7 +78,7 @@ fn make_calls(
     while 0 < left {
         let answered = interpreter::answer(now, command, line, output);
         now = answered.shots;
-        if !write_answer(output, answered.size) {
+        if !write_answer(writer, output, answered.size) {
             return Session {
                 shots: now,
                 lines,
@@ -96,7 +97,13 @@ fn make_calls(
 }
 
 // Answers that a line is no call.
-fn answer_fault(shots: Shots, lines: u64, fault: Fault, output: &mut [u8]) -> Session
+fn answer_fault(
+    writer: &mut impl Write,
+    shots: Shots,
+    lines: u64,
+    fault: Fault,
+    output: &mut [u8],
+) -> Session
     requires all_reachable { AllReachable shots }
     requires text_limit_in_bounds { text_limit ≤ length output.old }
     ensures all_reachable_2 { AllReachable result.shots }
@@ -107,12 +114,12 @@ fn answer_fault(shots: Shots, lines: u64, fault: Fault, output: &mut [u8]) -> Se
         shots,
         lines,
         overlong: false,
-        written: write_answer(output, size),
+        written: write_answer(writer, output, size),
     }
 }
 
 // Answers a line; of one that is too long, the bytes at hand are its last.
-fn answer_line(session: Session, line: &[u8], output: &mut [u8]) -> Session
+fn answer_line(writer: &mut impl Write, session: Session, line: &[u8], output: &mut [u8]) -> Session
     requires all_reachable { AllReachable session.shots }
     requires text_limit_in_bounds { text_limit ≤ length output.old }
     ensures all_reachable_2 { AllReachable result.shots }
@@ -121,9 +128,9 @@ fn answer_line(session: Session, line: &[u8], output: &mut [u8]) -> Session
 {
     let shots = session.shots;
     // no script has so many lines that the number comes round
-    let lines = std::num::wrapping_add_u64(session.lines, 1);
+    let lines = session.lines.wrapping_add(1);
     if session.overlong {
-        return answer_fault(shots, lines, Fault::TooLong, output);
+        return answer_fault(writer, shots, lines, Fault::TooLong, output);
     }
     let read = script::read_line(line);
     match read {
@@ -133,13 +140,20 @@ fn answer_line(session: Session, line: &[u8], output: &mut [u8]) -> Session
             overlong: false,
             written: true,
         },
-        ScriptLine::Calls(times, command) => make_calls(shots, lines, times, command, line, output),
-        ScriptLine::NoCall(fault) => answer_fault(shots, lines, fault, output),
+        ScriptLine::Calls(times, command) => {
+            make_calls(writer, shots, lines, times, command, line, output)
+        }
+        ScriptLine::NoCall(fault) => answer_fault(writer, shots, lines, fault, output),
     }
 }
 
 // Answers the lines that end within the bytes at hand.
-fn answer_lines(session: Session, bytes: &[u8], output: &mut [u8]) -> Progress
+fn answer_lines(
+    writer: &mut impl Write,
+    session: Session,
+    bytes: &[u8],
+    output: &mut [u8],
+) -> Progress
     requires all_reachable { AllReachable session.shots }
     requires text_limit_in_bounds { text_limit ≤ length output.old }
     ensures all_reachable_2 { AllReachable result.session.shots }
@@ -155,7 +169,7 @@ fn answer_lines(session: Session, bytes: &[u8], output: &mut [u8]) -> Progress
                 start,
             };
         }
-        now = answer_line(now, &bytes[start..end], output);
+        now = answer_line(writer, now, &bytes[start..end], output);
         start = end + 1;
     }
     Progress {
@@ -176,29 +190,35 @@ fn move_to_front(bytes: &mut [u8], start: usize, end: usize)
     }
 }
 
-// Says on standard error why the program ends early: it has no exit status.
-fn report(text: &[u8]) {
-    io::write_all(STDERR_FILENO, b"replay: ");
-    io::write_all(STDERR_FILENO, text);
-    io::write_all(STDERR_FILENO, b"\n");
+// Says on standard error why the program ends early: its exit status stays 0.
+fn report(rt: &impl Eprint, text: &str) {
+    let _ = eprintln!(rt; "replay: {text}");
 }
 
-// The script has ended: answers what is left of it, a line without its line feed.
-fn finish(session: Session, rest: &[u8], output: &mut [u8])
+// The script has ended: answers what is left of it, a line without its line feed, and hands back what the script has come to.
+fn finish(
+    rt: &impl Eprint,
+    writer: &mut impl Write,
+    session: Session,
+    rest: &[u8],
+    output: &mut [u8],
+) -> Session
     requires all_reachable { AllReachable session.shots }
     requires text_limit_in_bounds { text_limit ≤ length output.old }
+    ensures { AllReachable result.shots }
 {
     if rest.len() == 0 && !session.overlong {
-        return;
+        return session;
     }
-    let last = answer_line(session, rest, output);
+    let last = answer_line(writer, session, rest, output);
     if !last.written {
-        report(b"the answers could not be written");
+        report(rt, "the answers could not be written");
     }
+    last
 }
 
 // Keeps the line that has not ended, after the others have been answered.
-fn keep_rest(progress: Progress, end: usize, buffer: &mut [u8]) -> State
+fn keep_rest(rt: &impl Eprint, progress: Progress, end: usize, buffer: &mut [u8]) -> State
     requires all_reachable { AllReachable progress.session.shots }
     requires start_le_end { (progress.start ≤ end) × (end ≤ length buffer.old) × (0 < length buffer.old) }
     ensures all_reachable_2 { AllReachable result.session.shots }
@@ -207,7 +227,7 @@ fn keep_rest(progress: Progress, end: usize, buffer: &mut [u8]) -> State
     let session = progress.session;
     let start = progress.start;
     if !session.written {
-        report(b"the answers could not be written");
+        report(rt, "the answers could not be written");
         return State {
             session,
             held: 0,
@@ -237,20 +257,31 @@ fn keep_rest(progress: Progress, end: usize, buffer: &mut [u8]) -> State
 }
 
 // Reads what there is to read into the room that is left, and hands back where that ends: at the end of the input, where it began.
-fn read_more(buffer: &mut [u8], held: usize) -> Arrived
+fn read_more(reader: &mut impl Read, buffer: &mut [u8], held: usize) -> Arrived
     requires { held < length buffer.old }
     ensures { (held ≤ result.end) × (result.end ≤ length buffer.old) }
 {
-    let got = libc::read(STDIN_FILENO, &mut buffer[held..]);
-    let more = io::count(got, &buffer[held..]);
-    Arrived {
-        end: held + more,
-        failed: got < 0,
+    match reader.read(&mut buffer[held..]) {
+        Ok(more) => Arrived {
+            end: held + more,
+            failed: false,
+        },
+        Err(_) => Arrived {
+            end: held,
+            failed: true,
+        },
     }
 }
 
 // Reads what there is to read, and answers the lines that it ends.
-fn read_and_answer(state: State, buffer: &mut [u8], output: &mut [u8]) -> State
+fn read_and_answer(
+    rt: &impl Eprint,
+    reader: &mut impl Read,
+    writer: &mut impl Write,
+    state: State,
+    buffer: &mut [u8],
+    output: &mut [u8],
+) -> State
     requires all_reachable { AllReachable state.session.shots }
     requires held_in_bounds { state.held < length buffer.old }
     requires text_limit_in_bounds { text_limit ≤ length output.old }
@@ -259,9 +290,9 @@ fn read_and_answer(state: State, buffer: &mut [u8], output: &mut [u8]) -> State
 {
     let session = state.session;
     let held = state.held;
-    let arrived = read_more(buffer, held);
+    let arrived = read_more(reader, buffer, held);
     if arrived.failed {
-        report(b"the script could not be read");
+        report(rt, "the script could not be read");
         return State {
             session,
             held: 0,
@@ -270,18 +301,20 @@ fn read_and_answer(state: State, buffer: &mut [u8], output: &mut [u8]) -> State
     }
     let end = arrived.end;
     if end == held {
-        finish(session, &buffer[..held], output);
+        let session = finish(rt, writer, session, &buffer[..held], output);
         return State {
             session,
             held: 0,
             goes_on: false,
         };
     }
-    let progress = answer_lines(session, &buffer[..end], output);
-    keep_rest(progress, end, buffer)
+    let progress = answer_lines(writer, session, &buffer[..end], output);
+    keep_rest(rt, progress, end, buffer)
 }
 
-fn main() {
+fn main(rt: HostRuntime) {
+    let mut reader = rt.stdin();
+    let mut writer = rt.stdout();
     let mut buffer = [0u8; ROOM];
     let mut output = [0u8; answers::TEXT_LIMIT];
     let mut state = State {
@@ -295,12 +328,17 @@ fn main() {
         goes_on: true,
     };
     // a proved loop has to end, and nothing says that a script does
-    let mut turns = u64::MAX;
-    while 0 < turns {
-        state = read_and_answer(state, &mut buffer, &mut output);
+    for _ in 0..u64::MAX {
+        state = read_and_answer(
+            &rt,
+            &mut reader,
+            &mut writer,
+            state,
+            &mut buffer,
+            &mut output,
+        );
         if !state.goes_on {
             return;
         }
-        turns -= 1;
     }
 }

@@ -11,15 +11,15 @@
 // without a pixel, and so not fixed (6). A wrong head and a strip that is too long are told on standard error, and nothing else is written.
 #![tactic(auto)]
 
-ghost use Rattle.std.specs.Prelude.{◌≡◌, ◌+◌, ◌*◌, length};
+ghost use Rattle.std.specs.Prelude.{◌≡◌, ◌+◌, ◌*◌, ◌≤◌, length};
 ghost use Rattle.dial.specs.Dial.{IsExactly};
 ghost use Rattle.shot.specs.Shot.{coloured};
 ghost use Rattle.shot.specs.Reachable.{Reachable};
 ghost use Rattle.rounds.specs.Inner.{Names, own_shot, ColouredByHead};
 
 use dial::Dial;
-use libc::{STDERR_FILENO, STDIN_FILENO, STDOUT_FILENO};
 use shot::{Answer, Shot};
+use std::io::Read;
 
 // The bytes of the longest strip.
 const STRIP_LIMIT: usize = 393216;
@@ -118,27 +118,22 @@ fn colour_by_head(head: &[u8; 8], strip: &[u8], destination: &mut [u8]) -> Answe
     colour_rounds(shot, method, dial, more, strip, destination)
 }
 
-// The program has no exit status, so it says what went wrong.
-fn report(text: &[u8]) {
-    io::write_all(STDERR_FILENO, b"rounds: ");
-    io::write_all(STDERR_FILENO, text);
-    io::write_all(STDERR_FILENO, b"\n");
+// The exit status stays 0, so the program says what went wrong.
+fn report(rt: &impl Eprint, text: &str) {
+    let _ = eprintln!(rt; "rounds: {text}");
 }
 
 // The number on a line, and then the bytes.
-fn write_answer(number: u32, bytes: &[u8]) {
-    if !io::print_decimal(STDOUT_FILENO, number as u64)
-        || !io::write_all(STDOUT_FILENO, b"\n")
-        || !io::write_all(STDOUT_FILENO, bytes)
-    {
-        report(b"the output could not be written");
+fn write_answer(rt: &(impl Print + Eprint), number: u32, bytes: &[u8]) {
+    if println!(rt; "{number}").is_err() || rt.write_all(bytes).is_err() {
+        report(rt, "the output could not be written");
     }
 }
 
 // Colours the strip, and writes what comes of it.
-fn answer_strip(head: &[u8; 8], strip: &[u8], destination: &mut [u8]) {
+fn answer_strip(rt: &(impl Print + Eprint), head: &[u8; 8], strip: &[u8], destination: &mut [u8]) {
     let answer = colour_by_head(head, strip, destination);
-    write_answer(answer.number, destination);
+    write_answer(rt, answer.number, destination);
 }
 
 // Room for a strip. Its contract gives only the length, so that no proof has so many zeros to look at.
@@ -148,24 +143,40 @@ fn strip_buffer() -> [u8; STRIP_LIMIT]
     [0; STRIP_LIMIT]
 }
 
-// Whether standard input has ended.
-fn at_end() -> bool {
-    let mut more = [0u8; 1];
-    io::read_full(STDIN_FILENO, &mut more) == 0
+// Reads until buf is full, the input ends or a read fails, and hands back how many bytes it put at the start of buf.
+fn read_full(reader: &mut impl Read, buf: &mut [u8]) -> usize
+    ensures { result ≤ length buf.new }
+{
+    let mut done = 0;
+    while done < buf.len() {
+        let n = reader.read(&mut buf[done..]).unwrap_or(0);
+        if n == 0 {
+            break;
+        }
+        done += n;
+    }
+    done
 }
 
-fn main() {
+// Whether the input has ended.
+fn at_end(reader: &mut impl Read) -> bool {
+    let mut more = [0u8; 1];
+    read_full(reader, &mut more) == 0
+}
+
+fn main(rt: HostRuntime) {
+    let mut reader = rt.stdin();
     let mut head = [0u8; 8];
     let mut strip = strip_buffer();
     let mut destination = strip_buffer();
-    if io::read_full(STDIN_FILENO, &mut head) < 8 || 2 < head[0] {
-        report(b"this is no head");
+    if read_full(&mut reader, &mut head) < 8 || 2 < head[0] {
+        report(&rt, "this is no head");
         return;
     }
-    let size = io::read_full(STDIN_FILENO, &mut strip);
-    if !at_end() {
-        report(b"the strip is too long");
+    let size = read_full(&mut reader, &mut strip);
+    if !at_end(&mut reader) {
+        report(&rt, "the strip is too long");
         return;
     }
-    answer_strip(&head, &strip[..size], &mut destination[..size]);
+    answer_strip(&rt, &head, &strip[..size], &mut destination[..size]);
 }

@@ -1,0 +1,11 @@
+-- The measure and the invariant of `scanning::same`.
+use Prim.Native.Nat.{◌-◌}
+use lib.ListN.{length}
+use Rattle.scanning.proofs.Texts.{SameTo}
+use Rattle.scanning.proofs.same.Given as goal
+
+abbrev pub invariant-loop-i : goal.invariant-loop-i
+invariant-loop-i l = SameTo l.a l.b l.i
+
+abbrev pub decreases-loop-i : goal.decreases-loop-i
+decreases-loop-i l = length l.a - l.i

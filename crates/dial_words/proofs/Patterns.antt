@@ -19,15 +19,15 @@ use Rattle.hexadecimal.proofs.Hexadecimal.{hexadecimal_means}
 use Rattle.dial_words.specs.DialWords.{pattern_of, float_of, pattern_bytes, FloatsAreWritten}
 use Rattle.dial_words.specs.declared.FloatValue.TheVariants.{Float as IsFloat}
 
-is_nan : (x : Float) → is_nan x ≡ true → x ≡ nan
+the_one_nan : (x : Float) → is_nan x ≡ true → x ≡ nan
 unfolding is_nan
-is_nan nan is = refl
-is_nan (inf s) is = absurd (false≢true is)
-is_nan (fin s m e) is = absurd (false≢true is)
+the_one_nan nan is = refl
+the_one_nan (inf s) is = absurd (false≢true is)
+the_one_nan (fin s m e) is = absurd (false≢true is)
 
 -- above infinity a pattern is that of NaN
 pub nan_pattern : (n : ℕ) → 2139095040 < n % 2147483648 → nan ≡ of_bits binary32 n
-nan_pattern n above = sym (is_nan _ (sym (nan_bits_is binary32 n) ∙ nan_bits_above binary32 n ∙ lt-ltb _ _ above))
+nan_pattern n above = sym (the_one_nan _ (sym (nan_bits_is binary32 n) ∙ nan_bits_above binary32 n ∙ lt-ltb _ _ above))
 
 -- and up to it that of another float
 pub other_pattern : (n : ℕ) → n % 2147483648 ≤ 2139095040 → T (not (nan_bits binary32 n))

@@ -59,12 +59,7 @@ pub fn cube_balance_curve(strip: &[u8], choice: u32, curve: &mut [u8]) -> u32
 }
 
 // Colours the source into the destination by a curve of 1,532 bytes. Refused: 10, 11, 7, 2, 8.
-pub fn cube_balance_colour(
-    curve: &[u8],
-    method: u32,
-    source: &[u8],
-    destination: &mut [u8],
-) -> u32
+pub fn cube_balance_colour(curve: &[u8], method: u32, source: &[u8], destination: &mut [u8]) -> u32
     ensures { colour_outcome (record { curve = curve.now; method = method; source = source.now; destination = destination.old }) ≡ record { number = result; bytes = destination.new } }
 {
     if curve.len() != curve_bytes::CURVE_LENGTH {

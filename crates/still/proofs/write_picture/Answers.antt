@@ -1,0 +1,60 @@
+-- `still::write_picture` meets its contract.
+use Rattle.still.specs.Inner.{PictureFits}
+use Rattle.netpbm.specs.Header.{header_text}
+use mathlib.Core.Path.{◌≡◌, sym, ap, subst, ◌∙◌}
+use mathlib.Core.List.{List}
+use Prim.Native.Nat.{ℕ, ◌+◌, ◌-◌, ◌≤◌, zero-le}
+use native.Mathlib.Omega.{arith}
+use borrow.Rule.Slice.PartMut.{put_mid}
+use lib.ListN.{length}
+use Rattle.text.specs.Text.{Writes}
+use Rattle.text.proofs.Runs.{writes_room, writes_more, part_writes}
+use Rattle.pixel.specs.Methods.{method_of}
+use Rattle.pixel.specs.Strip.{Bytes}
+use Rattle.curve.specs.Curve.{EntriesInRange}
+use Rattle.strip_curve.proofs.Laws.{strip_shape}
+use Rattle.colouring.specs.Colouring.{coloured_strip}
+use Rattle.netpbm.proofs.Written.{written_headers_fit}
+use Rattle.still.specs.Still.{file_choice, file_method, balanced, picture}
+use Rattle.still.proofs.Samples.{whole_shot, balanced_length}
+use Rattle.still.proofs.write_picture.Goals as goal
+
+-- after the header there is room for the samples
+room : {width height samples : ℕ} {before after : List ℕ} {first : ℕ} → PictureFits width height samples (length before)
+    → Writes 0 (header_text width height) before first after → first + samples ≤ length after
+room {width} {height} fits wrote =
+    writes_room wrote _ (omega (arith, written_headers_fit width height fits.some fits.most, wrote.ends, fits.exact, fits.most, fits.room))
+
+pub write_header-first-requires : goal.write_header-first-requires
+write_header-first-requires c =
+    let fits = c.requires.picture_fits in
+    omega (arith, written_headers_fit c.args.width c.args.height fits.some fits.most, fits.room)
+
+pub slice_bounds-colour_strip-end : goal.slice_bounds-colour_strip-end
+slice_bounds-colour_strip-end c = room c.requires.picture_fits c.write_header-first.ensures
+
+pub colour_strip-requires-clause-entries_in_range : goal.colour_strip-requires-clause-entries_in_range
+colour_strip-requires-clause-entries_in_range c =
+    let fits = c.requires.picture_fits in
+    let samples = c.args.samples.now in
+    let bytes : Bytes samples = λ i. omega (arith, c.type_inv.samples i) in
+    subst EntriesInRange (sym c.requires.own_curve)
+    (strip_shape samples (whole_shot _ _ fits.exact fits.some fits.most) bytes file_choice).range
+
+pub returns : goal.returns
+unfolding picture balanced
+returns c =
+    let fits = c.requires.picture_fits in
+    let samples = c.args.samples.now in
+    let first = c.write_header-first.result in
+    let before = c.write_header-first.new.output in
+    let piece = c.colour_strip.new.destination in
+    let is : piece ≡ balanced samples =
+    c.colour_strip.ensures ∙ ap (λ (curve : List ℕ). coloured_strip (method_of file_method) curve samples) c.requires.own_curve in
+    let size : length piece ≡ first + length samples - first =
+    ap length is ∙ balanced_length samples (whole_shot _ _ fits.exact fits.some fits.most).whole ∙ omega arith in
+    let inside : first + length samples ≤ length before = room fits c.write_header-first.ensures in
+    writes_more c.write_header-first.ensures zero-le
+    (subst (λ (written : List ℕ). Writes first written before (first + length samples) (put_mid first (first + length samples - first) before piece))
+    is
+    (part_writes first (first + length samples) piece before (omega arith) size))

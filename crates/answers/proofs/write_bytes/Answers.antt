@@ -3,8 +3,7 @@ use Rattle.answers.proofs.Sizes.{decimal_size, strip_size}
 use native.Mathlib.Omega.{arith}
 use Rattle.text.proofs.Runs.{writes_room, writes_more}
 use mathlib.Core.List.{◌++◌}
-use Prim.Native.Nat.{◌+◌, ◌≤◌, zero-le}
-use lib.ListN.{length}
+use Prim.Native.Nat.{zero-le}
 use Rattle.text.specs.Decimal.{decimal}
 use Rattle.text.specs.Text.{ascii, Writes}
 use Rattle.answers.specs.Answers.{strip_text}
@@ -12,24 +11,18 @@ use Rattle.answers.proofs.write_bytes.Goals as goal
 
 pub write_decimal-end-requires : goal.write_decimal-end-requires
 write_decimal-end-requires c =
-    let room : length (decimal c.args.number) + length (strip_text c.args.bytes.now) + 2 ≤ length c.args.output.now =
-    omega (arith, decimal_size c.args.number (omega arith), strip_size c.args.bytes.now, c.requires) in
-    omega (arith, room)
+    omega (arith, decimal_size c.args.number (omega arith), strip_size c.args.bytes.now, c.requires)
 
 pub write_text-end-requires : goal.write_text-end-requires
 write_text-end-requires c =
-    let room : length (decimal c.args.number) + length (strip_text c.args.bytes.now) + 2 ≤ length c.args.output.now =
-    omega (arith, decimal_size c.args.number (omega arith), strip_size c.args.bytes.now, c.requires) in
     let done = c.write_decimal-end.ensures in
-    writes_room done _ (omega (arith, room, done.ends))
+    writes_room done _ (omega (arith, decimal_size c.args.number (omega arith), strip_size c.args.bytes.now, c.requires, done.ends))
 
 pub write_strip-end-requires : goal.write_strip-end-requires
 write_strip-end-requires c =
     let spaced : Writes 0 (decimal c.args.number ++ ascii " ") c.args.output.now c.write_text-end.result c.write_text-end.new.output =
     writes_more c.write_decimal-end.ensures zero-le c.write_text-end.ensures in
-    let room : length (decimal c.args.number) + length (strip_text c.args.bytes.now) + 2 ≤ length c.args.output.now =
-    omega (arith, decimal_size c.args.number (omega arith), strip_size c.args.bytes.now, c.requires) in
-    writes_room spaced _ (omega (arith, room, spaced.ends))
+    writes_room spaced _ (omega (arith, decimal_size c.args.number (omega arith), strip_size c.args.bytes.now, c.requires, spaced.ends))
 
 pub write_text-requires : goal.write_text-requires
 write_text-requires c =
@@ -37,9 +30,7 @@ write_text-requires c =
     writes_more c.write_decimal-end.ensures zero-le c.write_text-end.ensures in
     let stripped : Writes 0 (decimal c.args.number ++ ascii " " ++ strip_text c.args.bytes.now) c.args.output.now c.write_strip-end.result c.write_strip-end.new.output =
     writes_more spaced zero-le c.write_strip-end.ensures in
-    let room : length (decimal c.args.number) + length (strip_text c.args.bytes.now) + 2 ≤ length c.args.output.now =
-    omega (arith, decimal_size c.args.number (omega arith), strip_size c.args.bytes.now, c.requires) in
-    writes_room stripped _ (omega (arith, room, stripped.ends))
+    writes_room stripped _ (omega (arith, decimal_size c.args.number (omega arith), strip_size c.args.bytes.now, c.requires, stripped.ends))
 
 pub returns : goal.returns
 returns c =

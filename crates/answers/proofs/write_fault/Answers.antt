@@ -3,8 +3,7 @@ use Rattle.answers.proofs.Sizes.{decimal_size, reason_size}
 use native.Mathlib.Omega.{arith}
 use Rattle.text.proofs.Runs.{writes_room, writes_more}
 use mathlib.Core.List.{◌++◌}
-use Prim.Native.Nat.{◌+◌, ◌≤◌, zero-le}
-use lib.ListN.{length}
+use Prim.Native.Nat.{zero-le}
 use Rattle.text.specs.Decimal.{decimal}
 use Rattle.text.specs.Text.{ascii, Writes}
 use Rattle.answers.specs.Answers.{reason_text, fault_text}
@@ -12,18 +11,14 @@ use Rattle.answers.proofs.write_fault.Goals as goal
 
 pub write_decimal-end-requires : goal.write_decimal-end-requires
 write_decimal-end-requires c =
-    let room : length (decimal c.args.line) + length (reason_text c.args.fault) + 19 ≤ length c.args.output.now =
-    omega (arith, decimal_size c.args.line (omega arith), reason_size c.args.fault, c.requires) in
     let done = c.write_text-end.ensures in
-    writes_room done _ (omega (arith, room, done.ends))
+    writes_room done _ (omega (arith, decimal_size c.args.line (omega arith), reason_size c.args.fault, c.requires, done.ends))
 
 pub write_text-end-requires-2 : goal.write_text-end-requires-2
 write_text-end-requires-2 c =
     let numbered : Writes 0 (ascii "line " ++ decimal c.args.line) c.args.output.now c.write_decimal-end.result c.write_decimal-end.new.output =
     writes_more c.write_text-end.ensures zero-le c.write_decimal-end.ensures in
-    let room : length (decimal c.args.line) + length (reason_text c.args.fault) + 19 ≤ length c.args.output.now =
-    omega (arith, decimal_size c.args.line (omega arith), reason_size c.args.fault, c.requires) in
-    writes_room numbered _ (omega (arith, room, numbered.ends))
+    writes_room numbered _ (omega (arith, decimal_size c.args.line (omega arith), reason_size c.args.fault, c.requires, numbered.ends))
 
 pub write_reason-end-requires : goal.write_reason-end-requires
 write_reason-end-requires c =
@@ -31,9 +26,7 @@ write_reason-end-requires c =
     writes_more c.write_text-end.ensures zero-le c.write_decimal-end.ensures in
     let introduced : Writes 0 (ascii "line " ++ decimal c.args.line ++ ascii " is no call: ") c.args.output.now c.write_text-end-2.result c.write_text-end-2.new.output =
     writes_more numbered zero-le c.write_text-end-2.ensures in
-    let room : length (decimal c.args.line) + length (reason_text c.args.fault) + 19 ≤ length c.args.output.now =
-    omega (arith, decimal_size c.args.line (omega arith), reason_size c.args.fault, c.requires) in
-    writes_room introduced _ (omega (arith, room, introduced.ends))
+    writes_room introduced _ (omega (arith, decimal_size c.args.line (omega arith), reason_size c.args.fault, c.requires, introduced.ends))
 
 pub write_text-requires : goal.write_text-requires
 write_text-requires c =
@@ -43,9 +36,7 @@ write_text-requires c =
     writes_more numbered zero-le c.write_text-end-2.ensures in
     let reasoned : Writes 0 (ascii "line " ++ decimal c.args.line ++ ascii " is no call: " ++ reason_text c.args.fault) c.args.output.now c.write_reason-end.result c.write_reason-end.new.output =
     writes_more introduced zero-le c.write_reason-end.ensures in
-    let room : length (decimal c.args.line) + length (reason_text c.args.fault) + 19 ≤ length c.args.output.now =
-    omega (arith, decimal_size c.args.line (omega arith), reason_size c.args.fault, c.requires) in
-    writes_room reasoned _ (omega (arith, room, reasoned.ends))
+    writes_room reasoned _ (omega (arith, decimal_size c.args.line (omega arith), reason_size c.args.fault, c.requires, reasoned.ends))
 
 pub returns : goal.returns
 unfolding fault_text

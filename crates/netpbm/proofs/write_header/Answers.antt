@@ -1,8 +1,7 @@
 -- `netpbm::write_header` meets its contract.
 use mathlib.Core.List.{◌++◌}
-use Prim.Native.Nat.{◌+◌, ◌≤◌, zero-le}
+use Prim.Native.Nat.{zero-le}
 use native.Mathlib.Omega.{arith}
-use lib.ListN.{length}
 use Rattle.text.specs.Decimal.{decimal}
 use Rattle.text.specs.Text.{ascii, Writes}
 use Rattle.text.proofs.Runs.{writes_room, writes_more}
@@ -12,24 +11,18 @@ use Rattle.netpbm.proofs.write_header.Goals as goal
 
 pub write_text-end-requires : goal.write_text-end-requires
 write_text-end-requires c =
-    let room : length (decimal c.args.width) + length (decimal c.args.height) + 9 ≤ length c.args.output.now =
-    omega (arith, header_size c.args.width c.args.height, c.requires) in
-    omega (arith, room)
+    omega (arith, header_size c.args.width c.args.height, c.requires)
 
 pub write_decimal-end-requires : goal.write_decimal-end-requires
 write_decimal-end-requires c =
-    let room : length (decimal c.args.width) + length (decimal c.args.height) + 9 ≤ length c.args.output.now =
-    omega (arith, header_size c.args.width c.args.height, c.requires) in
     let done = c.write_text-end.ensures in
-    writes_room done _ (omega (arith, room, done.ends))
+    writes_room done _ (omega (arith, header_size c.args.width c.args.height, c.requires, done.ends))
 
 pub write_text-end-requires-2 : goal.write_text-end-requires-2
 write_text-end-requires-2 c =
     let width : Writes 0 (ascii "P6\n" ++ decimal c.args.width) c.args.output.now c.write_decimal-end.result c.write_decimal-end.new.output =
     writes_more c.write_text-end.ensures zero-le c.write_decimal-end.ensures in
-    let room : length (decimal c.args.width) + length (decimal c.args.height) + 9 ≤ length c.args.output.now =
-    omega (arith, header_size c.args.width c.args.height, c.requires) in
-    writes_room width _ (omega (arith, room, width.ends))
+    writes_room width _ (omega (arith, header_size c.args.width c.args.height, c.requires, width.ends))
 
 pub write_decimal-end-requires-2 : goal.write_decimal-end-requires-2
 write_decimal-end-requires-2 c =
@@ -37,9 +30,7 @@ write_decimal-end-requires-2 c =
     writes_more c.write_text-end.ensures zero-le c.write_decimal-end.ensures in
     let space : Writes 0 (ascii "P6\n" ++ decimal c.args.width ++ ascii " ") c.args.output.now c.write_text-end-2.result c.write_text-end-2.new.output =
     writes_more width zero-le c.write_text-end-2.ensures in
-    let room : length (decimal c.args.width) + length (decimal c.args.height) + 9 ≤ length c.args.output.now =
-    omega (arith, header_size c.args.width c.args.height, c.requires) in
-    writes_room space _ (omega (arith, room, space.ends))
+    writes_room space _ (omega (arith, header_size c.args.width c.args.height, c.requires, space.ends))
 
 pub write_text-requires : goal.write_text-requires
 write_text-requires c =
@@ -49,9 +40,7 @@ write_text-requires c =
     writes_more width zero-le c.write_text-end-2.ensures in
     let height : Writes 0 (ascii "P6\n" ++ decimal c.args.width ++ ascii " " ++ decimal c.args.height) c.args.output.now c.write_decimal-end-2.result c.write_decimal-end-2.new.output =
     writes_more space zero-le c.write_decimal-end-2.ensures in
-    let room : length (decimal c.args.width) + length (decimal c.args.height) + 9 ≤ length c.args.output.now =
-    omega (arith, header_size c.args.width c.args.height, c.requires) in
-    writes_room height _ (omega (arith, room, height.ends))
+    writes_room height _ (omega (arith, header_size c.args.width c.args.height, c.requires, height.ends))
 
 pub returns : goal.returns
 unfolding header_text

@@ -2,11 +2,7 @@
 use Rattle.answers.proofs.Sizes.{decimal_size, strip_size}
 use native.Mathlib.Omega.{arith}
 use Rattle.text.proofs.Runs.{writes_room, writes_more}
-use mathlib.Core.List.{◌++◌}
 use Prim.Native.Nat.{zero-le}
-use Rattle.text.specs.Decimal.{decimal}
-use Rattle.text.specs.Text.{ascii, Writes}
-use Rattle.answers.specs.Answers.{strip_text}
 use Rattle.answers.proofs.write_bytes.Goals as goal
 
 pub write_decimal-end-requires : goal.write_decimal-end-requires
@@ -20,24 +16,19 @@ write_text-end-requires c =
 
 pub write_strip-end-requires : goal.write_strip-end-requires
 write_strip-end-requires c =
-    let spaced : Writes 0 (decimal c.args.number ++ ascii " ") c.args.output.now c.write_text-end.result c.write_text-end.new.output =
-    writes_more c.write_decimal-end.ensures zero-le c.write_text-end.ensures in
+    let spaced = writes_more c.write_decimal-end.ensures zero-le c.write_text-end.ensures in
     writes_room spaced _ (omega (arith, decimal_size c.args.number (omega arith), strip_size c.args.bytes.now, c.requires, spaced.ends))
 
 pub write_text-requires : goal.write_text-requires
 write_text-requires c =
-    let spaced : Writes 0 (decimal c.args.number ++ ascii " ") c.args.output.now c.write_text-end.result c.write_text-end.new.output =
-    writes_more c.write_decimal-end.ensures zero-le c.write_text-end.ensures in
-    let stripped : Writes 0 (decimal c.args.number ++ ascii " " ++ strip_text c.args.bytes.now) c.args.output.now c.write_strip-end.result c.write_strip-end.new.output =
-    writes_more spaced zero-le c.write_strip-end.ensures in
+    let spaced = writes_more c.write_decimal-end.ensures zero-le c.write_text-end.ensures in
+    let stripped = writes_more spaced zero-le c.write_strip-end.ensures in
     writes_room stripped _ (omega (arith, decimal_size c.args.number (omega arith), strip_size c.args.bytes.now, c.requires, stripped.ends))
 
 pub returns : goal.returns
 returns c =
-    let spaced : Writes 0 (decimal c.args.number ++ ascii " ") c.args.output.now c.write_text-end.result c.write_text-end.new.output =
-    writes_more c.write_decimal-end.ensures zero-le c.write_text-end.ensures in
-    let stripped : Writes 0 (decimal c.args.number ++ ascii " " ++ strip_text c.args.bytes.now) c.args.output.now c.write_strip-end.result c.write_strip-end.new.output =
-    writes_more spaced zero-le c.write_strip-end.ensures in
+    let spaced = writes_more c.write_decimal-end.ensures zero-le c.write_text-end.ensures in
+    let stripped = writes_more spaced zero-le c.write_strip-end.ensures in
     record {
       writes = writes_more stripped zero-le c.write_text.ensures;
       short =

@@ -2,11 +2,8 @@
 use Rattle.answers.proofs.Sizes.{decimal_size, reason_size}
 use native.Mathlib.Omega.{arith}
 use Rattle.text.proofs.Runs.{writes_room, writes_more}
-use mathlib.Core.List.{◌++◌}
 use Prim.Native.Nat.{zero-le}
-use Rattle.text.specs.Decimal.{decimal}
-use Rattle.text.specs.Text.{ascii, Writes}
-use Rattle.answers.specs.Answers.{reason_text, fault_text}
+use Rattle.answers.specs.Answers.{fault_text}
 use Rattle.answers.proofs.write_fault.Goals as goal
 
 pub write_decimal-end-requires : goal.write_decimal-end-requires
@@ -16,37 +13,28 @@ write_decimal-end-requires c =
 
 pub write_text-end-requires-2 : goal.write_text-end-requires-2
 write_text-end-requires-2 c =
-    let numbered : Writes 0 (ascii "line " ++ decimal c.args.line) c.args.output.now c.write_decimal-end.result c.write_decimal-end.new.output =
-    writes_more c.write_text-end.ensures zero-le c.write_decimal-end.ensures in
+    let numbered = writes_more c.write_text-end.ensures zero-le c.write_decimal-end.ensures in
     writes_room numbered _ (omega (arith, decimal_size c.args.line (omega arith), reason_size c.args.fault, c.requires, numbered.ends))
 
 pub write_reason-end-requires : goal.write_reason-end-requires
 write_reason-end-requires c =
-    let numbered : Writes 0 (ascii "line " ++ decimal c.args.line) c.args.output.now c.write_decimal-end.result c.write_decimal-end.new.output =
-    writes_more c.write_text-end.ensures zero-le c.write_decimal-end.ensures in
-    let introduced : Writes 0 (ascii "line " ++ decimal c.args.line ++ ascii " is no call: ") c.args.output.now c.write_text-end-2.result c.write_text-end-2.new.output =
-    writes_more numbered zero-le c.write_text-end-2.ensures in
+    let numbered = writes_more c.write_text-end.ensures zero-le c.write_decimal-end.ensures in
+    let introduced = writes_more numbered zero-le c.write_text-end-2.ensures in
     writes_room introduced _ (omega (arith, decimal_size c.args.line (omega arith), reason_size c.args.fault, c.requires, introduced.ends))
 
 pub write_text-requires : goal.write_text-requires
 write_text-requires c =
-    let numbered : Writes 0 (ascii "line " ++ decimal c.args.line) c.args.output.now c.write_decimal-end.result c.write_decimal-end.new.output =
-    writes_more c.write_text-end.ensures zero-le c.write_decimal-end.ensures in
-    let introduced : Writes 0 (ascii "line " ++ decimal c.args.line ++ ascii " is no call: ") c.args.output.now c.write_text-end-2.result c.write_text-end-2.new.output =
-    writes_more numbered zero-le c.write_text-end-2.ensures in
-    let reasoned : Writes 0 (ascii "line " ++ decimal c.args.line ++ ascii " is no call: " ++ reason_text c.args.fault) c.args.output.now c.write_reason-end.result c.write_reason-end.new.output =
-    writes_more introduced zero-le c.write_reason-end.ensures in
+    let numbered = writes_more c.write_text-end.ensures zero-le c.write_decimal-end.ensures in
+    let introduced = writes_more numbered zero-le c.write_text-end-2.ensures in
+    let reasoned = writes_more introduced zero-le c.write_reason-end.ensures in
     writes_room reasoned _ (omega (arith, decimal_size c.args.line (omega arith), reason_size c.args.fault, c.requires, reasoned.ends))
 
 pub returns : goal.returns
 unfolding fault_text
 returns c =
-    let numbered : Writes 0 (ascii "line " ++ decimal c.args.line) c.args.output.now c.write_decimal-end.result c.write_decimal-end.new.output =
-    writes_more c.write_text-end.ensures zero-le c.write_decimal-end.ensures in
-    let introduced : Writes 0 (ascii "line " ++ decimal c.args.line ++ ascii " is no call: ") c.args.output.now c.write_text-end-2.result c.write_text-end-2.new.output =
-    writes_more numbered zero-le c.write_text-end-2.ensures in
-    let reasoned : Writes 0 (ascii "line " ++ decimal c.args.line ++ ascii " is no call: " ++ reason_text c.args.fault) c.args.output.now c.write_reason-end.result c.write_reason-end.new.output =
-    writes_more introduced zero-le c.write_reason-end.ensures in
+    let numbered = writes_more c.write_text-end.ensures zero-le c.write_decimal-end.ensures in
+    let introduced = writes_more numbered zero-le c.write_text-end-2.ensures in
+    let reasoned = writes_more introduced zero-le c.write_reason-end.ensures in
     record {
       writes = writes_more reasoned zero-le c.write_text.ensures;
       short =

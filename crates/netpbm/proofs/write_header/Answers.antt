@@ -1,9 +1,6 @@
 -- `netpbm::write_header` meets its contract.
-use mathlib.Core.List.{◌++◌}
 use Prim.Native.Nat.{zero-le}
 use native.Mathlib.Omega.{arith}
-use Rattle.text.specs.Decimal.{decimal}
-use Rattle.text.specs.Text.{ascii, Writes}
 use Rattle.text.proofs.Runs.{writes_room, writes_more}
 use Rattle.netpbm.specs.Header.{header_text}
 use Rattle.netpbm.proofs.Written.{header_size}
@@ -20,35 +17,26 @@ write_decimal-end-requires c =
 
 pub write_text-end-requires-2 : goal.write_text-end-requires-2
 write_text-end-requires-2 c =
-    let width : Writes 0 (ascii "P6\n" ++ decimal c.args.width) c.args.output.now c.write_decimal-end.result c.write_decimal-end.new.output =
-    writes_more c.write_text-end.ensures zero-le c.write_decimal-end.ensures in
+    let width = writes_more c.write_text-end.ensures zero-le c.write_decimal-end.ensures in
     writes_room width _ (omega (arith, header_size c.args.width c.args.height, c.requires, width.ends))
 
 pub write_decimal-end-requires-2 : goal.write_decimal-end-requires-2
 write_decimal-end-requires-2 c =
-    let width : Writes 0 (ascii "P6\n" ++ decimal c.args.width) c.args.output.now c.write_decimal-end.result c.write_decimal-end.new.output =
-    writes_more c.write_text-end.ensures zero-le c.write_decimal-end.ensures in
-    let space : Writes 0 (ascii "P6\n" ++ decimal c.args.width ++ ascii " ") c.args.output.now c.write_text-end-2.result c.write_text-end-2.new.output =
-    writes_more width zero-le c.write_text-end-2.ensures in
+    let width = writes_more c.write_text-end.ensures zero-le c.write_decimal-end.ensures in
+    let space = writes_more width zero-le c.write_text-end-2.ensures in
     writes_room space _ (omega (arith, header_size c.args.width c.args.height, c.requires, space.ends))
 
 pub write_text-requires : goal.write_text-requires
 write_text-requires c =
-    let width : Writes 0 (ascii "P6\n" ++ decimal c.args.width) c.args.output.now c.write_decimal-end.result c.write_decimal-end.new.output =
-    writes_more c.write_text-end.ensures zero-le c.write_decimal-end.ensures in
-    let space : Writes 0 (ascii "P6\n" ++ decimal c.args.width ++ ascii " ") c.args.output.now c.write_text-end-2.result c.write_text-end-2.new.output =
-    writes_more width zero-le c.write_text-end-2.ensures in
-    let height : Writes 0 (ascii "P6\n" ++ decimal c.args.width ++ ascii " " ++ decimal c.args.height) c.args.output.now c.write_decimal-end-2.result c.write_decimal-end-2.new.output =
-    writes_more space zero-le c.write_decimal-end-2.ensures in
+    let width = writes_more c.write_text-end.ensures zero-le c.write_decimal-end.ensures in
+    let space = writes_more width zero-le c.write_text-end-2.ensures in
+    let height = writes_more space zero-le c.write_decimal-end-2.ensures in
     writes_room height _ (omega (arith, header_size c.args.width c.args.height, c.requires, height.ends))
 
 pub returns : goal.returns
 unfolding header_text
 returns c =
-    let width : Writes 0 (ascii "P6\n" ++ decimal c.args.width) c.args.output.now c.write_decimal-end.result c.write_decimal-end.new.output =
-    writes_more c.write_text-end.ensures zero-le c.write_decimal-end.ensures in
-    let space : Writes 0 (ascii "P6\n" ++ decimal c.args.width ++ ascii " ") c.args.output.now c.write_text-end-2.result c.write_text-end-2.new.output =
-    writes_more width zero-le c.write_text-end-2.ensures in
-    let height : Writes 0 (ascii "P6\n" ++ decimal c.args.width ++ ascii " " ++ decimal c.args.height) c.args.output.now c.write_decimal-end-2.result c.write_decimal-end-2.new.output =
-    writes_more space zero-le c.write_decimal-end-2.ensures in
+    let width = writes_more c.write_text-end.ensures zero-le c.write_decimal-end.ensures in
+    let space = writes_more width zero-le c.write_text-end-2.ensures in
+    let height = writes_more space zero-le c.write_decimal-end-2.ensures in
     writes_more height zero-le c.write_text.ensures

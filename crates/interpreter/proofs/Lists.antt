@@ -68,9 +68,9 @@ abbrev texts : Shot → List Call → List (List ℕ)
 texts x [] = []
 texts x (call ∷ calls) = call_text call (step x call) ∷ texts (step x call).answer.shot calls
 
-texts_of_trace : (n : ℕ) (x : Shot) (b : Book) (calls : List Call) → texts x calls ≡ map step_text (trace_from n x b calls)
-texts_of_trace n x b [] = refl
-texts_of_trace n x b (call ∷ calls) = ap (λ (ts : List (List ℕ)). call_text call (step x call) ∷ ts) (texts_of_trace _ _ _ calls)
+texts_of_trace : (calls : List Call) (n : ℕ) (x : Shot) (b : Book) → texts x calls ≡ map step_text (trace_from n x b calls)
+texts_of_trace [] n x b = refl
+texts_of_trace (call ∷ calls) n x b = ap (λ (ts : List (List ℕ)). call_text call (step x call) ∷ ts) (texts_of_trace calls _ _ _)
 
 -- One request, for the shot with a number: the shot after it, and what is told.
 module _ (number : ℕ) (there : is_shot number ≡ true) (shots : Shots) where
@@ -156,6 +156,6 @@ lists_run_side_by_side = record {
   answers = λ calls read number there.
       answers_follow number there calls read new_shots
       ∙ ap (λ (x : Shot). texts x (calls_on number calls)) (new_shot number there)
-      ∙ texts_of_trace 0 opened empty_book (calls_on number calls);
+      ∙ texts_of_trace (calls_on number calls) 0 opened empty_book;
   accurate = λ calls number. accuracy (calls_on number calls) (well_formed_lem number calls);
 }

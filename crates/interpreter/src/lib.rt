@@ -5,6 +5,7 @@ ghost use Rattle.std.specs.Prelude.{◌≡◌, ◌≤◌, length};
 ghost use Rattle.hexadecimal.specs.Hexadecimal.{decoded};
 ghost use Rattle.pixel.specs.MoveOne.{moved_one};
 ghost use Rattle.pixel.specs.Strip.{pixel_from};
+ghost use Rattle.shot.specs.Shot.{opened};
 ghost use Rattle.script.specs.Script.{line_limit, HasCall};
 ghost use Rattle.answers.specs.Answers.{byte_limit, text_limit, number_text, WritesAnswer};
 ghost use Rattle.book.specs.Book.{Call.opening, Call.measuring, Call.fixing, Call.colouring};
@@ -13,6 +14,7 @@ ghost use Rattle.interpreter.specs.Interpreter.{new_shots, shot_of, with_shot, A
 use dial::Dial;
 use script::Command;
 use shot::{Answer, Shot};
+use std::mem;
 
 // The shots of a script, by their numbers from 1 to 4.
 #[derive(Drop)]
@@ -42,20 +44,21 @@ pub fn new_shots() -> Shots
     }
 }
 
-// The shot with this number.
-fn shot_of(shots: Shots, number: u32) -> Shot
-    ensures { result ≡ shot_of shots number }
+// Takes the shot with this number out. Until one is put back a newly opened shot stands in its place.
+fn shot_of(shots: &mut Shots, number: u32) -> Shot
+    ensures taken { result ≡ shot_of shots.old number }
+    ensures left { shots.new ≡ with_shot shots.old number opened }
 {
     if number == 1 {
-        return shots.first;
+        return mem::replace(&mut shots.first, Shot::open());
     }
     if number == 2 {
-        return shots.second;
+        return mem::replace(&mut shots.second, Shot::open());
     }
     if number == 3 {
-        return shots.third;
+        return mem::replace(&mut shots.third, Shot::open());
     }
-    shots.fourth
+    mem::replace(&mut shots.fourth, Shot::open())
 }
 
 // The shots, with this one in the place of its number.
@@ -112,16 +115,16 @@ fn answer_number(shots: Shots, number: u32, answer: Answer, output: &mut [u8]) -
 }
 
 // open
-fn open_shot(shots: Shots, number: u32, output: &mut [u8]) -> Answered
+fn open_shot(mut shots: Shots, number: u32, output: &mut [u8]) -> Answered
     requires { text_limit ≤ length output.old }
     ensures { LeavesReply (on_shot shots number opening) output.old result output.new }
 {
-    let answer = book::open(shot_of(shots, number));
+    let answer = book::open(shot_of(&mut shots, number));
     answer_number(shots, number, answer, output)
 }
 
 // measure
-fn measure_shot(shots: Shots, number: u32, strip: &[u8], output: &mut [u8]) -> Answered
+fn measure_shot(mut shots: Shots, number: u32, strip: &[u8], output: &mut [u8]) -> Answered
     requires all_reachable { AllReachable shots }
     requires strip_len_bound { length strip.now ≤ line_limit }
     requires text_limit_in_bounds { text_limit ≤ length output.old }
@@ -129,23 +132,23 @@ fn measure_shot(shots: Shots, number: u32, strip: &[u8], output: &mut [u8]) -> A
 {
     let mut bytes = [0u8; answers::BYTE_LIMIT];
     let count = hexadecimal::decode(strip, &mut bytes);
-    let answer = book::measure(shot_of(shots, number), &bytes[..count]);
+    let answer = book::measure(shot_of(&mut shots, number), &bytes[..count]);
     answer_number(shots, number, answer, output)
 }
 
 // fix
-fn fix_shot(shots: Shots, number: u32, choice: u32, output: &mut [u8]) -> Answered
+fn fix_shot(mut shots: Shots, number: u32, choice: u32, output: &mut [u8]) -> Answered
     requires all_reachable { AllReachable shots }
     requires text_limit_in_bounds { text_limit ≤ length output.old }
     ensures { LeavesReply (on_shot shots number (fixing choice)) output.old result output.new }
 {
-    let answer = book::fix(shot_of(shots, number), choice);
+    let answer = book::fix(shot_of(&mut shots, number), choice);
     answer_number(shots, number, answer, output)
 }
 
 // Colours bytes, and answers with what the destination then holds.
 fn colour_bytes(
-    shots: Shots,
+    mut shots: Shots,
     number: u32,
     method: u32,
     dial: Dial,
@@ -158,7 +161,13 @@ fn colour_bytes(
     requires text_limit_in_bounds { text_limit ≤ length output.old }
     ensures { LeavesReply (on_shot shots number (colouring (record { method = method; dial = dial; source = source.now; destination = destination.old }))) output.old result output.new }
 {
-    let answer = book::colour(shot_of(shots, number), method, dial, source, destination);
+    let answer = book::colour(
+        shot_of(&mut shots, number),
+        method,
+        dial,
+        source,
+        destination,
+    );
     let shot = answer.shot;
     let size = answers::write_bytes(answer.number, destination, output);
     Answered {

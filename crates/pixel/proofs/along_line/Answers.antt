@@ -1,8 +1,7 @@
 -- `pixel::along_line` meets its contract.
-use mathlib.Core.Path.{◌≡◌, refl, sym, subst, ◌∙◌}
+use mathlib.Core.Path.{◌≡◌, refl, sym, subst}
 use Prim.Native.Nat.{ℕ, ◌*◌}
 use native.Mathlib.Omega.{arith}
-use borrow.Author.Rules.{rules}
 use Rattle.rounding.specs.Near.{near}
 use Rattle.pixel.specs.Inner.{AtMostWhite}
 use Rattle.pixel.specs.Moving.{MovingSample}

@@ -2,7 +2,6 @@
 use mathlib.Core.Path.{◌≡◌, refl, ap, sym, ◌∙◌}
 use mathlib.Core.Bool.{true}
 use Prim.Native.Nat.{ℕ, ◌≤◌}
-use borrow.Author.Rules.{rules}
 use borrow.Author.Tests.{ltb-false, not-false}
 use Rattle.refusal.specs.Refusal.{first_of}
 use Rattle.refusal.proofs.Laws.{none_applies, accepted_leaves, refused_leaves}

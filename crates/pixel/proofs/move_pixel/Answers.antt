@@ -1,5 +1,4 @@
 -- `pixel::move_pixel` meets its contract.
-use borrow.Author.Rules.{rules}
 use Rattle.pixel.specs.Move.{moved}
 use Rattle.pixel.proofs.move_pixel.Goals as goal
 

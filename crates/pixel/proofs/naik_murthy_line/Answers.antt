@@ -1,6 +1,5 @@
 -- `pixel::naik_murthy_line` meets its contract.
 use native.Mathlib.Omega.{arith}
-use borrow.Author.Rules.{rules}
 use borrow.Author.Tests.{le-leb, lt-leb}
 use Rattle.pixel.specs.Lines.{naik_murthy_line}
 use Rattle.pixel.proofs.naik_murthy_line.Goals as goal

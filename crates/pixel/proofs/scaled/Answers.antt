@@ -1,6 +1,5 @@
 -- `pixel::scaled` meets its contract.
 use native.Mathlib.Omega.{arith}
-use borrow.Author.Rules.{rules}
 use Rattle.pixel.proofs.Lines.{at_most_255}
 use Rattle.pixel.proofs.scaled.Goals as goal
 

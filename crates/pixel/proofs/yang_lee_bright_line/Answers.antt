@@ -1,6 +1,5 @@
 -- `pixel::yang_lee_bright_line` meets its contract.
 use native.Mathlib.Omega.{arith}
-use borrow.Author.Rules.{rules}
 use borrow.Author.Tests.{le-leb, lt-leb}
 use Rattle.pixel.specs.Lines.{yang_lee_line}
 use Rattle.pixel.proofs.yang_lee_bright_line.Goals as goal

@@ -1,7 +1,6 @@
 -- `rounding::rounded` meets its contract.
-use native.Mathlib.Nat.{mod-lt, div-le_self, div-add-mod'}
+use native.Mathlib.Nat.{mod-lt, div-add-mod'}
 use native.Mathlib.Omega.{arith}
-use borrow.Author.Rules.{rules}
 use Rattle.rounding.proofs.Laws.{near_up, near_down}
 use Rattle.rounding.proofs.rounded.Goals as goal
 

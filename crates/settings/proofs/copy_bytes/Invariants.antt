@@ -1,10 +1,8 @@
 -- The measure and the invariant of `settings::copy_bytes`.
 use Prim.Native.Nat.{◌-◌}
-use mathlib.Core.Path.{refl}
 use lib.ListN.{length}
-use borrow.Author.Rules.{rules}
 use Rattle.tables.specs.Table.{at}
-use Rattle.tables.proofs.Filling.{Filled, filled_start, filled_more, filled_copy}
+use Rattle.tables.proofs.Filling.{Filled}
 use Rattle.settings.proofs.copy_bytes.Given as goal
 
 abbrev pub invariant-loop-i : goal.invariant-loop-i

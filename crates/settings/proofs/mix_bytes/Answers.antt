@@ -1,8 +1,6 @@
 -- `settings::mix_bytes` meets its contract.
-use Prim.Native.Nat.{◌-◌}
-use lib.ListN.{length}
 use borrow.Author.Rules.{rules}
-use Rattle.settings.proofs.Bytes.{MixedTo, mixed_start, mixed_more, mixed_end}
+use Rattle.settings.proofs.Bytes.{mixed_more, mixed_end}
 use Rattle.settings.proofs.mix_bytes.Goals as goal
 
 pub loop-i-preserved : goal.loop-i-preserved

@@ -1,8 +1,7 @@
 -- The measure and the invariant of `settings::mix_bytes`.
 use Prim.Native.Nat.{◌-◌}
 use lib.ListN.{length}
-use borrow.Author.Rules.{rules}
-use Rattle.settings.proofs.Bytes.{MixedTo, mixed_start, mixed_more, mixed_end}
+use Rattle.settings.proofs.Bytes.{MixedTo}
 use Rattle.settings.proofs.mix_bytes.Given as goal
 
 abbrev pub invariant-loop-i : goal.invariant-loop-i

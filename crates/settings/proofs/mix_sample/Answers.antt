@@ -3,7 +3,6 @@ use Prim.Native.Nat.{ℕ, ◌+◌, ◌-◌, ◌*◌, ◌≤◌}
 use native.Mathlib.Nat.{mul-le-mul_right}
 use native.Mathlib.Omega.{arith}
 use mathlib.Core.Path.{refl}
-use borrow.Author.Rules.{rules}
 use Rattle.settings.specs.Setting.{mixed}
 use Rattle.settings.proofs.mix_sample.Goals as goal
 use Rattle.settings.proofs.mix_sample.Goals.{Start}

@@ -13,10 +13,10 @@ all_but_last : (t : ℕ) (c : Joined-n-ge10 t)
     → AllButLast c.args.n c.args.output.now c.args.place c.if-n-ge10.last c.if-n-ge10.output
 all_but_last t c =
     elim c.if-n-ge10.branch [
-      then-n-ge10 w ↦
-      tenth_before w.if-n-ge10.true (omega arith) (w.last-is ∙ w.write_decimal-last.ensures.ends)
-      (w.output-is ∙ w.write_decimal-last.ensures.holds)
-    | else-n-ge10 w ↦ none_before w.if-n-ge10.false w.last-is w.output-is
+      | then-n-ge10 w ↦
+          tenth_before w.if-n-ge10.true (omega arith) (w.last-is ∙ w.write_decimal-last.ensures.ends)
+          (w.output-is ∙ w.write_decimal-last.ensures.holds)
+      | else-n-ge10 w ↦ none_before w.if-n-ge10.false w.last-is w.output-is
     ]
 
 pub bounds-output-last : goal.bounds-output-last

@@ -1,9 +1,6 @@
 -- `text::read_decimal` meets its contract.
-use Prim.Native.Nat.{◌-◌}
 use native.Mathlib.Omega.{arith}
-use lib.ListN.{length}
-use Rattle.text.proofs.Reading.{ReadTo, read_start, read_more, read_fits, read_end}
-use borrow.Author.Rules.{rules}
+use Rattle.text.proofs.Reading.{read_more, read_fits, read_end}
 use Rattle.text.proofs.read_decimal.Goals as goal
 
 pub overflow_mul-number : goal.overflow_mul-number

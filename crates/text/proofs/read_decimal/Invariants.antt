@@ -1,9 +1,7 @@
 -- The measure and the invariant of `text::read_decimal`.
 use Prim.Native.Nat.{◌-◌}
-use native.Mathlib.Omega.{arith}
 use lib.ListN.{length}
-use Rattle.text.proofs.Reading.{ReadTo, read_start, read_more, read_fits, read_end}
-use borrow.Author.Rules.{rules}
+use Rattle.text.proofs.Reading.{ReadTo}
 use Rattle.text.proofs.read_decimal.Given as goal
 
 abbrev pub invariant-loop-i : goal.invariant-loop-i

@@ -1,9 +1,7 @@
 -- The measure and the invariant of `text::write_text`.
 use Prim.Native.Nat.{◌-◌}
-use native.Mathlib.Omega.{arith}
-use borrow.Author.Rules.{rules}
 use lib.ListN.{length}
-use Rattle.text.proofs.Runs.{WrittenTo, written_start, kept_so_far, written_byte, written_end}
+use Rattle.text.proofs.Runs.{WrittenTo}
 use Rattle.text.proofs.write_text.Given as goal
 
 abbrev pub invariant-loop-i : goal.invariant-loop-i

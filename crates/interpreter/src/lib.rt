@@ -5,7 +5,6 @@ ghost use Rattle.std.specs.Prelude.{◌≡◌, ◌≤◌, length};
 ghost use Rattle.hexadecimal.specs.Hexadecimal.{decoded};
 ghost use Rattle.pixel.specs.MoveOne.{moved_one};
 ghost use Rattle.pixel.specs.Strip.{pixel_from};
-ghost use Rattle.shot.specs.Shot.{opened};
 ghost use Rattle.script.specs.Script.{line_limit, HasCall};
 ghost use Rattle.answers.specs.Answers.{byte_limit, text_limit, number_text, WritesAnswer};
 ghost use Rattle.book.specs.Book.{Call.opening, Call.measuring, Call.fixing, Call.colouring};
@@ -14,10 +13,9 @@ ghost use Rattle.interpreter.specs.Interpreter.{new_shots, shot_of, with_shot, A
 use dial::Dial;
 use script::Command;
 use shot::{Answer, Shot};
-use std::mem;
 
 // The shots of a script, by their numbers from 1 to 4.
-#[derive(Drop)]
+#[derive(Clone, Copy)]
 pub struct Shots {
     first: Shot,
     second: Shot,
@@ -26,7 +24,7 @@ pub struct Shots {
 }
 
 // What a call leaves: the shots, and how many bytes its answer has.
-#[derive(Drop)]
+#[derive(Clone, Copy)]
 pub struct Answered {
     pub shots: Shots,
     pub size: usize,
@@ -44,21 +42,20 @@ pub fn new_shots() -> Shots
     }
 }
 
-// Takes the shot with this number out. Until one is put back a newly opened shot stands in its place.
-fn shot_of(shots: &mut Shots, number: u32) -> Shot
-    ensures taken { result ≡ shot_of shots.old number }
-    ensures left { shots.new ≡ with_shot shots.old number opened }
+// The shot with this number.
+fn shot_of(shots: Shots, number: u32) -> Shot
+    ensures { result ≡ shot_of shots number }
 {
     if number == 1 {
-        return mem::replace(&mut shots.first, Shot::open());
+        return shots.first;
     }
     if number == 2 {
-        return mem::replace(&mut shots.second, Shot::open());
+        return shots.second;
     }
     if number == 3 {
-        return mem::replace(&mut shots.third, Shot::open());
+        return shots.third;
     }
-    mem::replace(&mut shots.fourth, Shot::open())
+    shots.fourth
 }
 
 // The shots, with this one in the place of its number.
@@ -115,16 +112,16 @@ fn answer_number(shots: Shots, number: u32, answer: Answer, output: &mut [u8]) -
 }
 
 // open
-fn open_shot(mut shots: Shots, number: u32, output: &mut [u8]) -> Answered
+fn open_shot(shots: Shots, number: u32, output: &mut [u8]) -> Answered
     requires { text_limit ≤ length output.old }
     ensures { LeavesReply (on_shot shots number opening) output.old result output.new }
 {
-    let answer = book::open(shot_of(&mut shots, number));
+    let answer = book::open(shot_of(shots, number));
     answer_number(shots, number, answer, output)
 }
 
 // measure
-fn measure_shot(mut shots: Shots, number: u32, strip: &[u8], output: &mut [u8]) -> Answered
+fn measure_shot(shots: Shots, number: u32, strip: &[u8], output: &mut [u8]) -> Answered
     requires all_reachable { AllReachable shots }
     requires strip_len_bound { length strip.now ≤ line_limit }
     requires text_limit_in_bounds { text_limit ≤ length output.old }
@@ -132,23 +129,23 @@ fn measure_shot(mut shots: Shots, number: u32, strip: &[u8], output: &mut [u8]) 
 {
     let mut bytes = [0u8; answers::BYTE_LIMIT];
     let count = hexadecimal::decode(strip, &mut bytes);
-    let answer = book::measure(shot_of(&mut shots, number), &bytes[..count]);
+    let answer = book::measure(shot_of(shots, number), &bytes[..count]);
     answer_number(shots, number, answer, output)
 }
 
 // fix
-fn fix_shot(mut shots: Shots, number: u32, choice: u32, output: &mut [u8]) -> Answered
+fn fix_shot(shots: Shots, number: u32, choice: u32, output: &mut [u8]) -> Answered
     requires all_reachable { AllReachable shots }
     requires text_limit_in_bounds { text_limit ≤ length output.old }
     ensures { LeavesReply (on_shot shots number (fixing choice)) output.old result output.new }
 {
-    let answer = book::fix(shot_of(&mut shots, number), choice);
+    let answer = book::fix(shot_of(shots, number), choice);
     answer_number(shots, number, answer, output)
 }
 
 // Colours bytes, and answers with what the destination then holds.
 fn colour_bytes(
-    mut shots: Shots,
+    shots: Shots,
     number: u32,
     method: u32,
     dial: Dial,
@@ -161,13 +158,7 @@ fn colour_bytes(
     requires text_limit_in_bounds { text_limit ≤ length output.old }
     ensures { LeavesReply (on_shot shots number (colouring (record { method = method; dial = dial; source = source.now; destination = destination.old }))) output.old result output.new }
 {
-    let answer = book::colour(
-        shot_of(&mut shots, number),
-        method,
-        dial,
-        source,
-        destination,
-    );
+    let answer = book::colour(shot_of(shots, number), method, dial, source, destination);
     let shot = answer.shot;
     let size = answers::write_bytes(answer.number, destination, output);
     Answered {

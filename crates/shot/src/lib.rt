@@ -10,7 +10,7 @@ use dial::Dial;
 
 // A shot's state: how many of its pixels have each intensity, how many they are, and, once it is fixed, its tone curve. Nothing
 // reads the curve of a shot that is not fixed. The counts stay after fixing.
-#[derive(Drop)]
+#[derive(Clone, Copy)]
 pub struct Shot {
     counts: [u32; 766],
     pixels: u32,
@@ -19,7 +19,7 @@ pub struct Shot {
 }
 
 // What a call hands back: the next shot, and 0 or the refusal's number.
-#[derive(Drop)]
+#[derive(Clone, Copy)]
 pub struct Answer {
     pub shot: Shot,
     pub number: u32,

@@ -8,7 +8,7 @@ ghost use Rattle.strip_curve.specs.OneStrip.{strip_checks, strip_curve};
 use curve::Choice;
 
 // What is handed back for a strip: 0 and its curve, or the refusal's number and zeros.
-#[derive(Drop)]
+#[derive(Clone, Copy)]
 pub struct StripCurve {
     pub number: u32,
     pub curve: [u16; 766],

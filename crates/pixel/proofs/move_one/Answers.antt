@@ -17,26 +17,26 @@ record Movable (method target : ℕ) : Type 0 where
   known : is_method method ≡ true
   fits : target ≤ 765
 
-move-passed : (method target : ℕ) → first_of (move_checks method target) ≡ 0 → Movable method target
-move-passed method target e =
+move_passed : (method target : ℕ) → first_of (move_checks method target) ≡ 0 → Movable method target
+move_passed method target e =
     let (known, (fits, _)) = none_applies (move_checks method target) refl e in
     record { known = not-false _ known; fits = ltb-false 765 target fits }
 
 module _ (method : ℕ) (p : Pixel) (target n : ℕ) (e : n ≡ first_of (move_checks method target)) where
-  refused-one : (n ≡ 0 → ⊥) → refused_move n ≡ moved_one method p target
+  refused_one : (n ≡ 0 → ⊥) → refused_move n ≡ moved_one method p target
   unfolding moved_one
-  refused-one refused = ap refused_move e ∙ sym (refused_leaves _ _ _ (λ z. refused (e ∙ z)))
+  refused_one refused = ap refused_move e ∙ sym (refused_leaves _ _ _ (λ z. refused (e ∙ z)))
 
-  accepted-one : n ≡ 0 → accepted_move (moved (method_of method) p target) ≡ moved_one method p target
+  accepted_one : n ≡ 0 → accepted_move (moved (method_of method) p target) ≡ moved_one method p target
   unfolding moved_one
-  accepted-one zero = sym (accepted_leaves _ _ _ (sym e ∙ zero))
+  accepted_one zero = sym (accepted_leaves _ _ _ (sym e ∙ zero))
 
 pub returns-then-number-ne0 : goal.returns-then-number-ne0
-returns-then-number-ne0 c = c.refused_move.ensures ∙ refused-one _ _ _ _ c.move_number-number.ensures c.if-number-ne0.true
+returns-then-number-ne0 c = c.refused_move.ensures ∙ refused_one _ _ _ _ c.move_number-number.ensures c.if-number-ne0.true
 
 pub returns : goal.returns
 returns c =
     let a = c.args in
     let same : c.move_pixel.result ≡ moved (method_of a.method) a.pixel a.target =
     c.move_pixel.ensures ∙ ap (λ (m : Method). moved m a.pixel a.target) c.method_of.ensures in
-    ap accepted_move same ∙ accepted-one _ _ _ _ c.move_number-number.ensures c.if-number-ne0.false
+    ap accepted_move same ∙ accepted_one _ _ _ _ c.move_number-number.ensures c.if-number-ne0.false

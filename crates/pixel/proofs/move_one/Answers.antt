@@ -1,26 +1,14 @@
 -- `pixel::move_one` meets its contract.
-use mathlib.Core.Path.{◌≡◌, refl, ap, sym, ◌∙◌}
-use mathlib.Core.Bool.{true}
-use Prim.Native.Nat.{ℕ, ◌≤◌}
-use borrow.Author.Tests.{ltb-false, not-false}
+use mathlib.Core.Path.{◌≡◌, ap, sym, ◌∙◌}
+use Prim.Native.Nat.{ℕ}
 use Rattle.refusal.specs.Refusal.{first_of}
-use Rattle.refusal.proofs.Laws.{none_applies, accepted_leaves, refused_leaves}
-use Rattle.pixel.specs.Methods.{is_method, method_of}
+use Rattle.refusal.proofs.Laws.{accepted_leaves, refused_leaves}
+use Rattle.pixel.specs.Methods.{method_of}
 use Rattle.pixel.specs.MoveOne.{move_checks, moved_one, refused_move, accepted_move}
 use Rattle.pixel.specs.Move.{moved}
 use Rattle.pixel.specs.declared.Pixel.{Pixel}
 use Rattle.pixel.specs.declared.Method.{Method}
 use Rattle.pixel.proofs.move_one.Goals as goal
-
--- an accepted move's method is known, and its target is at most 765
-record Movable (method target : ℕ) : Type 0 where
-  known : is_method method ≡ true
-  fits : target ≤ 765
-
-move_passed : (method target : ℕ) → first_of (move_checks method target) ≡ 0 → Movable method target
-move_passed method target e =
-    let (known, (fits, _)) = none_applies (move_checks method target) refl e in
-    record { known = not-false _ known; fits = ltb-false 765 target fits }
 
 module _ (method : ℕ) (p : Pixel) (target n : ℕ) (e : n ≡ first_of (move_checks method target)) where
   refused_one : (n ≡ 0 → ⊥) → refused_move n ≡ moved_one method p target

@@ -39,7 +39,7 @@ def read(path):
 
 
 def snake(name):
-    parted = re.sub(r"(?<=[a-z0-9])([A-Z])", lambda m: "_" + m.group(1), name)
+    parted = re.sub(r"(?<=[a-z0-9₀-₉])([A-Z])", lambda m: "_" + m.group(1), name)
     return parted.replace("-", "_").lower()
 
 

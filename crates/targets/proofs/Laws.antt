@@ -89,6 +89,6 @@ targets_are_right =
       at510 = refl;
       at765 = refl;
       equation11 = eq11;
-      area₂is_exact = λ k h. leb→le _ _ (up_to765 area₂_exact tt k h);
-      area₃is_exact = λ k l h. (omega arith, leb→le _ _ (each_between area₃_exact 510 256 tt k l (omega arith)));
+      area₂_is_exact = λ k h. leb→le _ _ (up_to765 area₂_exact tt k h);
+      area₃_is_exact = λ k l h. (omega arith, leb→le _ _ (each_between area₃_exact 510 256 tt k l (omega arith)));
     }

@@ -23,5 +23,5 @@ pub record TargetsAreRight : Type 0 where
   -- G(k) is equation 11 at the intensity k/255, without its factor √3/6 and times 255³
   pub equation11 : (k : ℕ) → k ≤ 765 → whole (cubed 255) ⊗ area (k over 255) ≈ whole (G k)
   -- and no subtraction of equation 11 is cut off at 0 there
-  pub area₂is_exact : (k : ℕ) → k ≤ 765 → taken₂ (k over 255) ≼ added₂ (k over 255)
-  pub area₃is_exact : (k : ℕ) → 510 ≤ k → k ≤ 765 → (k over 255 ≼ whole 3) × (taken₃ (k over 255) ≼ whole 6)
+  pub area₂_is_exact : (k : ℕ) → k ≤ 765 → taken₂ (k over 255) ≼ added₂ (k over 255)
+  pub area₃_is_exact : (k : ℕ) → 510 ≤ k → k ≤ 765 → (k over 255 ≼ whole 3) × (taken₃ (k over 255) ≼ whole 6)

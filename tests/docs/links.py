@@ -25,7 +25,7 @@ SOURCES = "crates", "include", "examples", "bench", "tests", "bin", "samples", "
 # what a reader makes: products, and the files of examples
 MADE = {"target", "balanced.ppm"}
 # words in backquotes that are no names of ours
-WORDS = {"P6", "refused", "rt", "ffmpeg", "ffprobe", "memcpy", "memset", "objdump", "ulimit", "rattle-kit-13f"}
+WORDS = {"P6", "refused", "rt", "ffmpeg", "ffprobe", "memcpy", "memset", "rattle_errno", "objdump", "ulimit", "rattle-kit-13f"}
 
 
 def link_faults(path):

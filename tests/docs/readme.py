@@ -12,24 +12,24 @@ import tempfile
 
 sys.path.insert(0, "tests/file")
 from exact_file import answer  # noqa: E402
-from pages import README, blocks, flowing, read, report, table  # noqa: E402
+from pages import README, blocks, flowing, listed, read, report, table  # noqa: E402
 
 LINKED = "bin", "include", "examples", "samples", "target"
 ROOT = pathlib.Path.cwd()
-LOGS = pathlib.Path("target/log")
-RATTLE = pathlib.Path("crates/frames/src/main.rt")
+CRATES = pathlib.Path("crates")
+RATTLE = CRATES / "frames/src/main.rt"
 GATE = pathlib.Path(".ci/run")
 NUMBERS = {"none": 0}
 
 
-def map_faults(rows, listed):
+def map_faults(rows, crates):
     """Whether the layers name every crate of crates.txt, in its order."""
     named = [name for row in rows for name in re.findall(r"`(\w+)`:", row[1])]
-    return [] if named == listed else [f"{README}: the map has {named}, and crates.txt {listed}"]
+    return [] if named == crates else [f"{README}: the map has {named}, and crates.txt {crates}"]
 
 
 def reported(log):
-    """The C functions whose contracts a program's proof assumes, by rt's report."""
+    """The C functions whose contracts a program's proof assumes, by rt's report; more than three of a library it cuts, by three dots."""
     found = re.findall(r"^axioms \w+: (.*?) \((\d+) of the \d+ declared\)", log, re.M)
     return sorted(name.split("::")[-1] for names, _ in found for name in names.split(", "))
 
@@ -47,16 +47,27 @@ def trust_faults(text, logs):
     for program, log in logs.items():
         due = reported(log)
         # only the report of what is linked names a target, and with it all that its proof assumes
-        if not re.search(r"^logic=proved .*\btarget=", log, re.M):
-            yield f"{program}: no report on what is linked; rt check writes it for a program, rt staticlib for the library"
+        last = re.search(r"^logic=proved (?:.* )?target=.*", log, re.M)
+        if not last:
+            yield f"{program}: no report on what is linked; rt check has it for a program and for a library for C"
+            continue
+        count = re.search(r" axioms=(\d+) ", last.group())
+        if len(due) != int(count.group(1) if count else 0):
+            yield f"{program}: rt names {due}, and counts otherwise: {last.group()}"
         if said(text, program) != (len(due), due):
             yield f"{README}: {program} is said to rest on {said(text, program)}, and rt reports {due}"
 
 
+def checked(crate):
+    """What rt says of a crate."""
+    how = {"stdin": subprocess.DEVNULL, "stdout": subprocess.PIPE, "stderr": subprocess.STDOUT, "check": False}
+    return subprocess.run(["rt", "check"], cwd=CRATES / crate, text=True, **how).stdout
+
+
 def reports():
     """rt's reports on the programs and on the library for C."""
-    names = {"`balance`": "balance.out", "`replay`": "replay.out", "`rounds`": "rounds.out", "`frames`": "frames.out", "the library for C": "host.say"}
-    return {said_as: read(LOGS / name) for said_as, name in names.items()}
+    crates = {"`balance`": "balance", "`replay`": "replay", "`rounds`": "rounds", "`frames`": "frames", "the library for C": "host_c"}
+    return {said_as: checked(crate) for said_as, crate in crates.items()}
 
 
 def snippet_faults(snippet, source):
@@ -120,15 +131,22 @@ def balance_faults(balance, refusal, room):
 
 def selftest():
     """What is wrong is found."""
-    log = "axioms libc: libc::read, libc::write (2 of the 50 declared)\nlogic=proved functions=1 axioms=2 target=x86\n"
+    log = (
+        "axioms libc: libc::read, libc::write (2 of the 50 declared)\naxioms os: os::c::errno (1 of the 22 declared)\n"
+        "axioms std: none reached of the 2 declared\nlogic=proved functions=1 axioms=3 target=x86\n"
+    )
     for text, due in (
-        ("`balance` rests on 2 of these, `read` and `write`, `frames` on 1", 0),
-        ("`balance` rests on 2 of these, `read` and `open`, `frames` on 1", 1),
+        ("`balance` rests on 3 of these, `errno`, `read` and `write`, `frames` on 1", 0),
+        ("`balance` rests on 2 of these, `read` and `write`, `frames` on 1", 1),
+        ("`balance` rests on 3 of these, `errno`, `read` and `open`, `frames` on 1", 1),
         ("`balance` rests on 1 of these, `read`", 1),
         ("`balance` rests on none", 1),
     ):
         if len(found := list(trust_faults(text, {"`balance`": log}))) != due:
             sys.exit(f"readme.py finds {found} in: {text}")
+    cut = log.replace("(2 of", ", ... (7 of").replace("axioms=3", "axioms=8")
+    if not list(trust_faults("`balance` rests on 4 of these, `...`, `errno`, `read` and `write`", {"`balance`": cut})):
+        sys.exit("readme.py does not notice that a report is cut")
     none = "the library for C on none", "the library for C"
     if list(trust_faults(none[0], {none[1]: "logic=proved functions=4 target=x86\n"})):
         sys.exit("readme.py does not read a report without assumptions")
@@ -144,14 +162,14 @@ def selftest():
 def main():
     selftest()
     text = read(README)
-    listed = re.findall(r"^(\w+):", read(pathlib.Path("crates.txt")), re.M)
+    crates = listed(read(pathlib.Path("crates.txt")))
     rattle = blocks(text, "rust")
-    faults = map_faults(table(README, ["layer", "crates"]).rows, listed)
+    faults = map_faults(table(README, ["layer", "crates"]).rows, crates)
     faults += trust_faults(flowing(text), reports())
     faults += snippet_faults(rattle[0], read(RATTLE)) if len(rattle) == 1 else [f"{README}: not one block in Rattle"]
     faults += tool_faults(flowing(text), read(GATE))
     faults += command_faults(text)
-    sys.exit(report("README", f"{len(listed)} crates, {len(blocks(text, 'sh'))} shell blocks", faults))
+    sys.exit(report("README", f"{len(crates)} crates, {len(blocks(text, 'sh'))} shell blocks", faults))
 
 
 main()

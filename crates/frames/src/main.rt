@@ -204,7 +204,7 @@ fn print_measure(rt: &impl Print, shot: Shot, strip: &[u8]) -> Shot
 }
 
 // A shot, and how many of its measurings were accepted.
-#[derive(Drop)]
+#[derive(Clone, Copy)]
 struct Filled {
     shot: Shot,
     accepted: u64,

@@ -20,7 +20,7 @@ const ROOM: usize = script::LINE_LIMIT + 1;
 
 // What a script has come to: its shots, how many lines have ended, whether the line at hand is too long, so that its bytes so far were
 // thrown away, and whether all answers were written.
-#[derive(Drop)]
+#[derive(Clone, Copy)]
 struct Session {
     shots: Shots,
     lines: u64,
@@ -29,7 +29,7 @@ struct Session {
 }
 
 // How far the bytes at hand have been answered: `start` is the place after the last line feed.
-#[derive(Drop)]
+#[derive(Clone, Copy)]
 struct Progress {
     session: Session,
     start: usize,
@@ -43,7 +43,7 @@ struct Arrived {
 }
 
 // The script so far, how many bytes of the line at hand are held, and whether there is more to come.
-#[derive(Drop)]
+#[derive(Clone, Copy)]
 struct State {
     session: Session,
     held: usize,
@@ -195,26 +195,24 @@ fn report(rt: &impl Eprint, text: &str) {
     let _ = eprintln!(rt; "replay: {text}");
 }
 
-// The script has ended: answers what is left of it, a line without its line feed, and hands back what the script has come to.
+// The script has ended: answers what is left of it, a line without its line feed.
 fn finish(
     rt: &impl Eprint,
     writer: &mut impl Write,
     session: Session,
     rest: &[u8],
     output: &mut [u8],
-) -> Session
+)
     requires all_reachable { AllReachable session.shots }
     requires text_limit_in_bounds { text_limit ≤ length output.old }
-    ensures { AllReachable result.shots }
 {
     if rest.len() == 0 && !session.overlong {
-        return session;
+        return;
     }
     let last = answer_line(writer, session, rest, output);
     if !last.written {
         report(rt, "the answers could not be written");
     }
-    last
 }
 
 // Keeps the line that has not ended, after the others have been answered.
@@ -301,7 +299,7 @@ fn read_and_answer(
     }
     let end = arrived.end;
     if end == held {
-        let session = finish(rt, writer, session, &buffer[..held], output);
+        finish(rt, writer, session, &buffer[..held], output);
         return State {
             session,
             held: 0,

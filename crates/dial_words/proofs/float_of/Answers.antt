@@ -25,9 +25,10 @@ returns-then-not-is_pairs c =
 pub returns : goal.returns
 unfolding float_of
 returns c =
+    let sized = c.if-word-ne8.false in
     rw (
       sym c.same.ensures ∙ c.if-same.false,
-      eq-eqb _ 8 c.if-word-ne8.false,
+      eq-eqb _ 8 sized,
       sym c.is_pairs.ensures ∙ c.if-not-is_pairs.false,
       c.float_of_digits.ensures,
     )

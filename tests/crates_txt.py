@@ -1,9 +1,8 @@
 """crates.txt lists every crate, and for each exactly the crates that its files name, each above it.
 
 A file of src/ names a crate by `name::`, a file of src/, specs/ or proofs/ by `Rattle.name.`; comments do not count. A must-fail edit
-may name no other. The kit's libraries are named and listed in the same way; `std` comes by itself, with its own modules. A crate may also
-list one that it does not name where a struct or an enum of a crate that it names holds a type of that one: the prover asks for it. The
-crates that export functions to C are the static libraries, and no crate leans on one.
+may name no other. The kit's libraries are named and listed in the same way; `std` comes by itself, with its own modules. The crates that
+export functions to C are the static libraries, and no crate leans on one.
 """
 
 import pathlib
@@ -23,8 +22,6 @@ LIBRARY = re.compile(r"\bRattle\.(\w+)\.")
 OF_STD = re.compile(r"\buse std::([^;]*);")
 EXPORTED = re.compile(r"^#\[unsafe\(no_mangle\)\]$", re.M)
 MODULE = re.compile(r"\bmod (\w+)")
-BROUGHT = re.compile(r"^use (\w+)::(\w+);", re.M)
-DECLARED = re.compile(r"^(?:pub )?(?:struct|enum) \w+ \{(.*?)^\}", re.M | re.S)
 
 
 def named(text, kind, crates):
@@ -48,17 +45,6 @@ def named_by(crate, crates):
                     found.setdefault(name, path)
     found.pop(crate, None)
     return found
-
-
-def held_in(text):
-    """The crates whose types the structs and enums of a text of src/ hold."""
-    text = COMMENT[".rt"].sub(lambda found: found.group(1) or " ", text)
-    held = set(re.findall(r"\w+", " ".join(DECLARED.findall(text))))
-    return {crate for crate, name in BROUGHT.findall(text) if name in held}
-
-
-def held_by(crate):
-    return set().union(*(held_in(path.read_text(encoding="utf-8")) for path in (CRATES / crate / "src").rglob("*.rt")))
 
 
 def named_by_edit(text, crates):
@@ -95,11 +81,11 @@ def kind_faults(crate, words, names, is_exporter, statics):
         yield f"{crate}: its line lists {name}, a library for C"
 
 
-def faults_of(crate, names, needed, held):
-    """What is wrong with a line, where `needed` says which crates are named and where, and `held` whose types these hold."""
+def faults_of(crate, names, needed):
+    """What is wrong with a line, where `needed` says which crates are named and where."""
     for name in sorted(needed.keys() - set(names)):
         yield f"{crate}: {needed[name]} names {name}, which its line does not list"
-    for name in sorted(set(names) - needed.keys() - held):
+    for name in sorted(set(names) - needed.keys()):
         yield f"{crate}: its line lists {name}, which no file of src/, specs/ or proofs/ names"
     for name in sorted({name for name in names if names.count(name) > 1}):
         yield f"{crate}: its line lists {name} twice"
@@ -130,11 +116,8 @@ def selftest():
     kinds = (["staticlib"], ["a"], True, {"d"}), ([], ["a"], False, {"d"}), ([], ["a"], True, set()), (["staticlib"], [], False, set()), ([], ["d"], False, {"d"})
     if [len(list(kind_faults("c", *kind))) for kind in kinds] != [0, 0, 1, 1, 1]:
         sys.exit("crates_txt.py does not tell a library for C from another")
-    if len(list(faults_of("c", ["a", "b", "b"], {"b": "x", "d": "y"}, {"e"}))) != 3 or list(faults_of("c", ["b", "e"], {"b": "x"}, {"e"})):
+    if len(list(faults_of("c", ["a", "b", "b"], {"b": "x", "d": "y"}))) != 3 or list(faults_of("c", ["b"], {"b": "x"})):
         sys.exit("crates_txt.py does not tell a wrong line from a right one")
-    code = "use still::Job;\nuse io::Run;\n// use text::T;\npub struct A {\n    job: Job, // Run\n}\nfn f(r: Run) {}\n"
-    if held_in(code) != {"still"}:
-        sys.exit(f"crates_txt.py finds that {sorted(held_in(code))} are held")
 
 
 def main():
@@ -145,8 +128,7 @@ def main():
     faults, above, statics = [], set(), set()
     for crate, words, names in lines:
         needed = named_by(crate, crates)
-        held = set().union(*(held_by(name) for name in needed.keys() & there))
-        faults += faults_of(crate, names, needed, held)
+        faults += faults_of(crate, names, needed)
         faults += [f"{crate}: {name} stands below it" for name in sorted(needed.keys() - above - KIT)]
         faults += kind_faults(crate, words, names, exports(crate), statics)
         statics |= {crate} if words else set()

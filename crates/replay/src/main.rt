@@ -70,8 +70,8 @@ fn make_calls(
     requires all_reachable { AllReachable shots }
     requires has_call { HasCall line.now command }
     requires text_limit_in_bounds { text_limit ≤ length output.old }
-    ensures all_reachable_2 { AllReachable result.shots }
-    ensures shots_value { result.written ≡ true → result.shots ≡ (replies_to times line.now command shots).shots }
+    ensures leaves_reachable { AllReachable result.shots }
+    ensures calls_made { result.written ≡ true → result.shots ≡ (replies_to times line.now command shots).shots }
 {
     let mut now = shots;
     let mut left = times;
@@ -106,8 +106,8 @@ fn answer_fault(
 ) -> Session
     requires all_reachable { AllReachable shots }
     requires text_limit_in_bounds { text_limit ≤ length output.old }
-    ensures all_reachable_2 { AllReachable result.shots }
-    ensures shots_value { result.shots ≡ shots }
+    ensures leaves_reachable { AllReachable result.shots }
+    ensures shots_stay { result.shots ≡ shots }
 {
     let size = answers::write_fault(fault, lines, output);
     Session {
@@ -122,9 +122,9 @@ fn answer_fault(
 fn answer_line(writer: &mut impl Write, session: Session, line: &[u8], output: &mut [u8]) -> Session
     requires all_reachable { AllReachable session.shots }
     requires text_limit_in_bounds { text_limit ≤ length output.old }
-    ensures all_reachable_2 { AllReachable result.shots }
-    ensures shots_value { session.overlong ≡ true → result.shots ≡ session.shots }
-    ensures shots_value_2 { session.overlong ≡ false → result.written ≡ true → result.shots ≡ (line_reply result.lines line.now (line_of line.now) session.shots).shots }
+    ensures leaves_reachable { AllReachable result.shots }
+    ensures overlong_stays { session.overlong ≡ true → result.shots ≡ session.shots }
+    ensures line_answered { session.overlong ≡ false → result.written ≡ true → result.shots ≡ (line_reply result.lines line.now (line_of line.now) session.shots).shots }
 {
     let shots = session.shots;
     // no script has so many lines that the number comes round
@@ -156,7 +156,7 @@ fn answer_lines(
 ) -> Progress
     requires all_reachable { AllReachable session.shots }
     requires text_limit_in_bounds { text_limit ≤ length output.old }
-    ensures all_reachable_2 { AllReachable result.session.shots }
+    ensures leaves_reachable { AllReachable result.session.shots }
     ensures start_in_bounds { result.start ≤ length bytes.now }
 {
     let mut now = session;
@@ -219,7 +219,7 @@ fn finish(
 fn keep_rest(rt: &impl Eprint, progress: Progress, end: usize, buffer: &mut [u8]) -> State
     requires all_reachable { AllReachable progress.session.shots }
     requires start_le_end { (progress.start ≤ end) × (end ≤ length buffer.old) × (0 < length buffer.old) }
-    ensures all_reachable_2 { AllReachable result.session.shots }
+    ensures leaves_reachable { AllReachable result.session.shots }
     ensures held_in_bounds { result.held < length buffer.old }
 {
     let session = progress.session;
@@ -283,8 +283,8 @@ fn read_and_answer(
     requires all_reachable { AllReachable state.session.shots }
     requires held_in_bounds { state.held < length buffer.old }
     requires text_limit_in_bounds { text_limit ≤ length output.old }
-    ensures all_reachable_2 { AllReachable result.session.shots }
-    ensures held_in_bounds_2 { result.held < length buffer.old }
+    ensures leaves_reachable { AllReachable result.session.shots }
+    ensures leaves_held_in_bounds { result.held < length buffer.old }
 {
     let session = state.session;
     let held = state.held;

@@ -7,8 +7,8 @@ use Rattle.interpreter.proofs.Scripts.{replies_more, replies_none}
 use Rattle.interpreter.proofs.Premise.{answered_reachable}
 use Rattle.replay.proofs.make_calls.Goals as goal
 
-pub returns-then-not-write_answer-clause-all_reachable_2 : goal.returns-then-not-write_answer-clause-all_reachable_2
-returns-then-not-write_answer-clause-all_reachable_2 g c =
+pub returns-then-not-write_answer-clause-leaves_reachable : goal.returns-then-not-write_answer-clause-leaves_reachable
+returns-then-not-write_answer-clause-leaves_reachable g c =
     answered_reachable c.args.line.now c.args.command c.loop-left.invariant.0 c.answer-answered.ensures
 
 pub loop-left-preserved : goal.loop-left-preserved
@@ -24,5 +24,5 @@ loop-left-preserved g c =
           ∙ c.loop-left.invariant.2,
     )
 
-pub returns-clause-shots_value : goal.returns-clause-shots_value
-returns-clause-shots_value g c _ = replies_none _ _ c.loop-left.now c.loop-left.left (search rules) ∙ c.loop-left.invariant.2
+pub returns-clause-calls_made : goal.returns-clause-calls_made
+returns-clause-calls_made g c _ = replies_none _ _ c.loop-left.now c.loop-left.left (search rules) ∙ c.loop-left.invariant.2

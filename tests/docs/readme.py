@@ -1,7 +1,10 @@
 """README.md's commands do what it says, its map is crates.txt, and what it says is trusted is what rt reports.
 
-The shell blocks are run as they stand, in a folder with links to the project's own. The block in Rattle stands, but for comments, in the
-file that README.md takes it from. The tools that the gate needs are those that it asks for.
+    python3 -B tests/docs/readme.py [LOG]
+
+LOG has what `rt ci` printed, with rt's reports on what it proved in that run; `rt check` gives the others. The shell blocks are run as they
+stand, in a folder with links to the project's own. The block in Rattle stands, but for comments, in the file that README.md takes it from.
+The tools that the gate needs are those that it asks for.
 """
 
 import pathlib
@@ -58,16 +61,19 @@ def trust_faults(text, logs):
             yield f"{README}: {program} is said to rest on {said(text, program)}, and rt reports {due}"
 
 
-def checked(crate):
-    """What rt says of a crate."""
+def checked(crate, log):
+    """What rt says of a crate: in the log of a run that proved it, or else anew."""
+    found = re.search(rf"^== {crate}\n(.*?)^rt: {crate} proved$", log, re.M | re.S)
+    if found:
+        return found.group(1)
     how = {"stdin": subprocess.DEVNULL, "stdout": subprocess.PIPE, "stderr": subprocess.STDOUT, "check": False}
     return subprocess.run(["rt", "check"], cwd=CRATES / crate, text=True, **how).stdout
 
 
-def reports():
+def reports(log):
     """rt's reports on the programs and on the library for C."""
     crates = {"`balance`": "balance", "`replay`": "replay", "`rounds`": "rounds", "`frames`": "frames", "the library for C": "host_c"}
-    return {said_as: checked(crate) for said_as, crate in crates.items()}
+    return {said_as: checked(crate, log) for said_as, crate in crates.items()}
 
 
 def snippet_faults(snippet, source):
@@ -152,6 +158,8 @@ def selftest():
         sys.exit("readme.py does not read a report without assumptions")
     if not list(trust_faults(none[0], {none[1]: "logic=proved functions=4\n"})):
         sys.exit("readme.py takes a crate's report for that of what is linked")
+    if checked("b", "== a\nx\nrt: a proved\n== b\ny\nz\nrt: b proved\n== c\nrt: c proved\n") != "y\nz\n":
+        sys.exit("readme.py does not find a crate's report in a log")
     rows = [["ground", "`a`: x. `b`: y"], ["top", "`c`: z of `a`"]]
     if map_faults(rows, ["a", "b", "c"]) or not map_faults(rows, ["a", "b"]) or not map_faults(rows, ["b", "a", "c"]):
         sys.exit("readme.py does not tell a wrong map from a right one")
@@ -165,7 +173,7 @@ def main():
     crates = listed(read(pathlib.Path("crates.txt")))
     rattle = blocks(text, "rust")
     faults = map_faults(table(README, ["layer", "crates"]).rows, crates)
-    faults += trust_faults(flowing(text), reports())
+    faults += trust_faults(flowing(text), reports("".join(read(pathlib.Path(path)) for path in sys.argv[1:])))
     faults += snippet_faults(rattle[0], read(RATTLE)) if len(rattle) == 1 else [f"{README}: not one block in Rattle"]
     faults += tool_faults(flowing(text), read(GATE))
     faults += command_faults(text)

@@ -120,7 +120,8 @@ returns c =
     let header = c.values_of-header.result in
     let is = number_is file c.read_header-reading.result c.file_number-number.result c.read_header-reading.ensures
     c.file_number-number.ensures in
-    answer_outcome file _ _ _ c.if-output-lt-OUTPUT_LIMIT.false
+    let room = c.if-output-lt-OUTPUT_LIMIT.false in
+    answer_outcome file _ _ _ room
     (subst (λ (text : List ℕ). Writes 0 text c.args.output.now c.write_picture.result c.write_picture.new.output)
     (picture_is file header
     (header_is file c.read_header-reading.result header c.read_header-reading.ensures c.values_of-header.ensures)

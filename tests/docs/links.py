@@ -11,10 +11,10 @@ import sys
 
 from pages import DOCS, all_pages, anchors, flowing, links, prose, read, report, spans
 
-# history speaks in the names and paths of its time
-HISTORY = DOCS / "LANDINGS.md"
+# history speaks in the names and paths of its time, and the port's page names what each thing was called before
+HISTORY = {DOCS / "LANDINGS.md", DOCS / "PORT.md"}
 # these say what the customer's papers are
-EXPLAIN = {DOCS / "RULES.md", DOCS / "PROMISES.md", DOCS / "DECISIONS.md", HISTORY}
+EXPLAIN = {DOCS / "RULES.md", DOCS / "PROMISES.md", DOCS / "DECISIONS.md"} | HISTORY
 PAPERS = re.compile(r"document 0\d|demand [123]\b|source 00\d", re.I)
 
 CRATES = pathlib.Path("crates")
@@ -131,7 +131,7 @@ def main():
     for path in all_pages():
         count += 1
         faults += link_faults(path)
-        if path != HISTORY:
+        if path not in HISTORY:
             faults += [*path_faults(path), *name_faults(path, known)]
         if path not in EXPLAIN:
             faults += paper_faults(path)

@@ -33,7 +33,7 @@ bring_up_to_date() {
     stale "$product" || return 0
     command -v rt >/dev/null || fail "$product has to be built, and rt is not on the path.
 Put the Rattle kit's rt on the path; README.md, \"Try it\", says which kit was used."
-    say "building $product, which takes one to three minutes"
+    say "building $product, which takes some minutes"
     started=$(date +%s.%N)
     # standard input is the program's, so rt gets none of it, nor does the program, which rt runs once it is built
     if ! said=$(cd "$crate" && rt "$@" </dev/null 2>&1); then

@@ -30,8 +30,8 @@ OPEN = re.compile(r"note: (src/\S+):(\d+):\d+: it is not proved that .*?\(`([^`]
 # what follows the goal where it is false; rt cuts the line somewhere
 FALSE = "; the facts known there allow values"
 # A name is missing, or a declaration below was refused: no fact. Lines below the first may say of a name that it is not in scope: a hint.
-UNFIT = re.compile(r"(?:`[^`]+`: )*(?:`[^`]+` is not in scope|module `[^`]+` has no `[^`]+`|`[^`]+` has no field|`[^`]+` was not admitted)")
-MISFIT = re.compile(r"^(?:\./)?proofs/\S+: error: (?:`[^`]+`: )*(?:`[^`]+` is not in scope|module `[^`]+` has no `[^`]+`).*", re.M)
+UNFIT = re.compile(r"(?:`[^`]+`: )*(?:`[^`]+` is not in scope|module `[^`]+` has no `[^`]+`|record `|`[^`]+` was not admitted)")
+MISFIT = re.compile(r"^(?:\./)?proofs/\S+: error: (?:`[^`]+`: )*(?:`[^`]+` is not in scope|module `[^`]+` has no `[^`]+`|record `).*", re.M)
 FUNCTION = re.compile(r'\s*(?:pub )?(?:extern "C" )?fn (\w+)')
 BY_HAND = "Answers.antt", "Proof.antt"
 
@@ -131,6 +131,8 @@ SNIPPETS = (
     (AS_IT_MUST + AT + "error: `near_window`: `omegaa` is not in scope; did you mean `omega`?", None, True),
     (AS_IT_MUST + AT + "error: `a`: `laws.b`: module `M.Laws` has no `b` that can be named from here", None, True),
     (AS_IT_MUST + AT + "error: `near_means`: `near_window` was not admitted (it has holes ...), so this cannot be checked", None, True),
+    (AS_IT_MUST + AT + "error: `a`: record `M.f.Lts.Then2` has no field `if-s-eq0`", None, True),
+    (AS_IT_MUST + AT + "error: `a`: record `M.f.Lts.View.In-After-slice_known-then-numb", None, True),
     (AS_IT_MUST + AT + "error: module `M.Near` has no `nearr` that can be named from here", None, True),
     (AS_IT_MUST + AT + "error: expected `:`, found name `b`", None, True),
     (AS_IT_MUST + "note: `simp` made 1 round(s) on the goal and never applied `mul_comm` (in `steps_over`)", None, True),
@@ -150,6 +152,7 @@ LOGS = (
     ("logic=proved functions=1\n", True),
     ("proofs/f/Answers.antt:8:24: error: `a-s`: `goal.a-s`: module `Rattle.c.proofs.f.Goals` has no `a-s` that can be\n" + OPEN_GOAL, True),
     ("./proofs/f/Answers.antt:8:24: error: `a`: `q` is not in scope\n" + OPEN_GOAL, True),
+    ("./proofs/f/Answers.antt:8:24: error: `a`: record `M.f.Lts.Then2` has no field `if-s-eq0`\n" + OPEN_GOAL, True),
     (AT + "error: `a`: they differ\n  `b` is not in scope here, so what is shown does not paste back\n" + OPEN_GOAL, False),
 )
 

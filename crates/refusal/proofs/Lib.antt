@@ -1,2 +1,3 @@
 pub mod Laws
+pub mod Numbers
 pub mod Numbering

@@ -1,5 +1,6 @@
 -- Cases that a call's argument names by a number, as document 01 numbers the methods and the curve choices.
-use Rattle.std.specs.Prelude.{◌≡◌, Bool, true, ◌||◌, cond, List, [], ◌∷◌, ℕ, eqb}
+use Rattle.std.specs.Prelude.{◌≡◌, Bool, true, false, ◌||◌, cond, List, [], ◌∷◌, ℕ, eqb, Result, MatchResult}
+use Rattle.refusal.specs.declared.Refusal.{Refusal}
 
 -- Whether n is the number of the first case or of one of the others.
 abbrev pub is_number : {A : Type 0} → (A → ℕ) → A → List A → ℕ → Bool
@@ -16,3 +17,8 @@ pub record IsNumbering {A : Type 0} (number : A → ℕ) (isCase : ℕ → Bool)
   pub named : (a : A) → isCase (number a) ≡ true
   pub back : (a : A) → caseBy (number a) ≡ a
   pub only : (n : ℕ) → isCase n ≡ true → number (caseBy n) ≡ n
+
+-- What a number is read as: the case that it names, or this refusal where it names none.
+abbrev pub Named : {A : Type 0} → (ℕ → Bool) → (ℕ → A) → Refusal → ℕ → Result A Refusal → Type 0
+Named is_case case_by refusal n r =
+    MatchResult r (λ a. (is_case n ≡ true) × (a ≡ case_by n)) (λ e. (is_case n ≡ false) × (e ≡ refusal))

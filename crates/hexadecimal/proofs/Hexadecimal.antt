@@ -3,10 +3,10 @@ use mathlib.Core.Path.{◌≡◌, refl, ap, ap₂}
 use mathlib.Core.Bool.{true}
 use mathlib.Core.List.{List, [], ◌∷◌}
 use Prim.Native.Nat.{ℕ, zero, suc, ◌+◌, ◌*◌, ◌/◌, ◌%◌, ◌<◌}
-use native.Mathlib.Nat.{not-suc-le-zero, le_of_suc-le-suc}
 use native.Mathlib.Omega.{arith}
 use borrow.Author.Tests.{eq-eqb}
-use lib.ListN.{length}
+use lib.ListN.{length, get_or}
+use Rattle.std.specs.Simd.{first_chunks}
 use Rattle.tables.specs.Table.{at}
 use Rattle.scanning.specs.Scanning.{is_hex_digit, run_length}
 use Rattle.hexadecimal.specs.Hexadecimal.{digit_value, digit_code, is_pairs, decoded, encoded, HexadecimalMeans}
@@ -30,33 +30,19 @@ pub decoded_small : (digits : List ℕ) (i : ℕ) → at (decoded digits) i < 25
 unfolding decoded
 decoded_small [] i = omega arith
 decoded_small (high ∷ []) i = omega arith
-decoded_small (high ∷ low ∷ digits) zero = omega (arith, digit_value_small high refl, digit_value_small low refl)
+decoded_small (high ∷ low ∷ digits) zero = omega (arith, digit_value_small high, digit_value_small low)
 decoded_small (high ∷ low ∷ digits) (suc i) = decoded_small digits i
 
--- the next pair begins two places on,
-next_first : (i : ℕ) → 2 * suc i ≡ suc (suc (2 * i))
-next_first i = omega arith
-
--- and so does its second digit
-next_second : (i : ℕ) → suc (suc (2 * i)) + 1 ≡ suc (suc (2 * i + 1))
-next_second i = omega arith
-
 -- the byte at i is that of the pair at i
-pub byte_at : (digits : List ℕ) (i : ℕ) → i < length digits / 2
-    → at (decoded digits) i ≡ 16 * digit_value (at digits (2 * i)) + digit_value (at digits (2 * i + 1))
+pub byte_at : (count : ℕ) (digits : List ℕ) (i : ℕ) → count ≡ length digits / 2 → i < count
+    → at (decoded digits) i
+    ≡ 16 * digit_value (at (get_or (first_chunks 2 count digits) i []) 0) + digit_value (at (get_or (first_chunks 2 count digits) i []) 1)
 unfolding decoded
-byte_at [] i less = absurd (omega arith)
-byte_at (high ∷ []) i less = absurd (omega arith)
-byte_at (high ∷ low ∷ digits) zero less = refl
-byte_at (high ∷ low ∷ digits) (suc i) less = rw (next_first i, next_second i) (byte_at digits i (omega arith))
-
--- the pair at i is that of the byte at i
-pub pair_at : (bytes : List ℕ) (i : ℕ) → i < length bytes
-    → (at (encoded bytes) (2 * i) ≡ digit_code (at bytes i / 16)) × (at (encoded bytes) (2 * i + 1) ≡ digit_code (at bytes i % 16))
-unfolding encoded
-pair_at [] i less = absurd (not-suc-le-zero less)
-pair_at (byte ∷ bytes) zero less = (refl, refl)
-pair_at (byte ∷ bytes) (suc i) less = rw (next_first i, next_second i) (pair_at bytes i (le_of_suc-le-suc less))
+byte_at zero digits i is less = absurd (omega arith)
+byte_at (suc count) [] i is less = absurd (omega arith)
+byte_at (suc count) (high ∷ []) i is less = absurd (omega arith)
+byte_at (suc count) (high ∷ low ∷ digits) zero is less = refl
+byte_at (suc count) (high ∷ low ∷ digits) (suc i) is less = byte_at count digits i (omega arith) (omega arith)
 
 -- the digits of a byte are digits, and stand for it
 byte_reads : (byte : ℕ) → byte < 256

@@ -1,7 +1,7 @@
 -- Laws of rounding, each over any fraction n / d with d > 0.
 use mathlib.Core.Path.{◌≡◌, sym, ap₂, ◌∙◌}
-use Prim.Native.Nat.{ℕ, ◌+◌, ◌*◌, ◌/◌, ◌<◌, ◌≤◌}
-use native.Mathlib.Nat.{div-mul-le_self, lt-div-mul-add, mul_left_comm, add-mul, lt_of_mul-lt-mul_right, le_antisymm, mul_comm, mul_assoc, mul-div-mul_right}
+use Prim.Native.Nat.{ℕ, ◌+◌, ◌*◌, ◌/◌, ◌%◌, ◌<◌, ◌≤◌}
+use native.Mathlib.Nat.{mod-lt, div-add-mod', div-mul-le_self, lt-div-mul-add, mul_left_comm, add-mul, lt_of_mul-lt-mul_right, le_antisymm, mul_comm, mul_assoc, mul-div-mul_right}
 use native.Mathlib.Omega.{arith}
 use Rattle.rounding.specs.Near.{near, NearestHalfUp, NearMeans}
 
@@ -38,15 +38,19 @@ near_same n d n' d' positive positive' same =
     ∙ ap₂ ◌/◌ nums dens
     ∙ mul-div-mul_right (2 * n' + d') (2 * d') positive
 
--- from the quotient and the remainder: half the divisor or more goes up
-pub near_up : (q r d n : ℕ) → q * d + r ≡ n → r < d → d ≤ 2 * r → q + 1 ≡ near n d
-near_up q r d n e less half =
-    (near_means (q + 1) n d (omega arith)).0
-    (record { above = omega (arith, add-mul q 1 d); below = omega (arith, add-mul q 1 d) })
+-- a remainder of half the divisor or more goes up
+pub near_up : (n d : ℕ) → 0 < d → d ≤ 2 * (n % d) → n / d + 1 ≡ near n d
+near_up n d positive half =
+    let whole = div-add-mod' n d in
+    let less : n % d < d = mod-lt n positive in
+    (near_means (n / d + 1) n d positive).0
+    (record { above = omega (arith, add-mul (n / d) 1 d); below = omega (arith, add-mul (n / d) 1 d) })
 
 -- and less than that goes down
-pub near_down : (q r d n : ℕ) → q * d + r ≡ n → 2 * r < d → q ≡ near n d
-near_down q r d n e less = (near_means q n d (omega arith)).0 (record { above = omega arith; below = omega arith })
+pub near_down : (n d : ℕ) → 0 < d → 2 * (n % d) < d → n / d ≡ near n d
+near_down n d positive less =
+    let whole = div-add-mod' n d in
+    (near_means (n / d) n d positive).0 (record { above = omega arith; below = omega arith })
 
 -- q is w, give or take 1
 pub record WithinOne (w q : ℕ) : Type 0 where

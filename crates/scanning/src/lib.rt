@@ -2,10 +2,12 @@
 #![tactic(auto)]
 
 ghost use Rattle.std.specs.Prelude.{◌≡◌, ◌+◌, drop};
-ghost use Rattle.scanning.specs.Scanning.{is_space, is_letter_from, is_hex_digit, in_class, run_length, same_bytes};
+ghost use Rattle.std.specs.List.{prefix_len};
+ghost use Rattle.scanning.specs.Scanning.{is_space, in_class, run_length};
 
 // The classes of bytes that are looked for.
-#[derive(Clone, Copy)]
+// An enum, and not a test that is passed on: a contract then names the class, by one definition.
+#[derive(Clone, Copy, Debug, PartialEq, Eq)]
 pub enum Class {
     // White space.
     Space,
@@ -21,41 +23,11 @@ pub enum Class {
     Line,
 }
 
-// Space, tab, LF, VT, FF, CR.
+// Space, tab, LF, VT, FF, CR. Rust's `is_ascii_whitespace` leaves out VT.
 pub fn is_space(b: u8) -> bool
     ensures { result ≡ is_space b }
 {
-    if b == b' ' {
-        return true;
-    }
-    // the other five follow one another
-    if b < b'\t' {
-        return false;
-    }
-    if b'\r' < b {
-        return false;
-    }
-    true
-}
-
-// Whether a byte is one of six letters, this one and the next five.
-fn is_letter_from(first: u8, b: u8) -> bool
-    ensures { result ≡ is_letter_from first b }
-{
-    first <= b && b - first <= 5
-}
-
-// 0 to 9, a to f, A to F.
-pub fn is_hex_digit(b: u8) -> bool
-    ensures { result ≡ is_hex_digit b }
-{
-    if text::is_digit(b) {
-        return true;
-    }
-    if is_letter_from(b'a', b) {
-        return true;
-    }
-    is_letter_from(b'A', b)
+    matches!(b, b' ' | b'\t'..=b'\r')
 }
 
 // Whether a byte is of the class.
@@ -64,41 +36,27 @@ fn in_class(class: Class, b: u8) -> bool
 {
     match class {
         Class::Space => is_space(b),
-        Class::Digit => text::is_digit(b),
-        Class::HexDigit => is_hex_digit(b),
+        Class::Digit => b.is_ascii_digit(),
+        Class::HexDigit => b.is_ascii_hexdigit(),
         Class::Word => !is_space(b),
         Class::Uncommented => b != b'#',
         Class::Line => b != b'\n',
     }
 }
 
+// How many bytes of the class the text begins with.
+fn run_length(class: Class, bytes: &[u8]) -> usize
+    ensures { result ≡ prefix_len (in_class class) bytes.now }
+{
+    bytes.iter().take_while(|b| in_class(class, **b)).count()
+}
+
 // The place after the bytes of the class that stand at `place`.
 pub fn run_end(class: Class, bytes: &[u8], place: usize) -> usize
     ensures { result ≡ place + run_length (in_class class) (drop place bytes.now) }
 {
-    let mut end = place;
-    while end < bytes.len() {
-        if !in_class(class, bytes[end]) {
-            return end;
-        }
-        end += 1;
+    match bytes.get(place..) {
+        Some(rest) => place + run_length(class, rest),
+        None => place,
     }
-    end
-}
-
-// Whether two texts are the same.
-pub fn same(a: &[u8], b: &[u8]) -> bool
-    ensures { result ≡ same_bytes a.now b.now }
-{
-    if a.len() != b.len() {
-        return false;
-    }
-    let mut i: usize = 0;
-    while i < a.len() {
-        if a[i] != b[i] {
-            return false;
-        }
-        i += 1;
-    }
-    true
 }

@@ -1,19 +1,9 @@
 -- Case distinctions.
 use mathlib.Core.Path.{◌≡◌, refl}
-use mathlib.Core.Bool.{Bool, true, false, ◌&&◌, cond, false≢true}
+use mathlib.Core.Bool.{Bool, true, false, cond}
 use Prim.Native.Nat.{ℕ, ◌≤◌, ◌<◌}
 use borrow.Author.Tests.{leb-true, leb-false}
 use lib.Dec.{leb}
-
--- both tests hold
-pub both : (t u : Bool) → (t && u) ≡ true → (t ≡ true) × (u ≡ true)
-both true u e = (refl, e)
-both false u e = absurd (false≢true e)
-
--- a test that cannot hold
-pub cannot : (t : Bool) → (t ≡ true → ⊥) → t ≡ false
-cannot true never = absurd (never refl)
-cannot false never = refl
 
 -- one value whatever the test
 pub cond_same : {A : Type 0} (t : Bool) (a : A) → cond t a a ≡ a

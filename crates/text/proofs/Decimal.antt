@@ -6,22 +6,19 @@ use mathlib.Core.Logic.{⊎_elim}
 use Prim.Native.Nat.{ℕ, zero, suc, ◌+◌, ◌-◌, ◌*◌, ◌/◌, ◌%◌, ◌^◌, ◌<◌, ◌≤◌, zero-le, suc-le-suc}
 use native.Mathlib.Nat.{not-suc-le-zero, eq-or-lt_of_le, pow-suc, mul-le-mul_right, mul_assoc, mul_comm}
 use native.Mathlib.Omega.{arith}
-use borrow.Author.Tests.{leb-true, le-leb, lt-ltb, le-ltb}
-use lib.Dec.{leb}
+use borrow.Author.Tests.{lt-ltb, le-ltb}
 use lib.ListN.{length, length-append, get_or-append}
 use lib.Seq.{get_or-append_seam}
+use Rattle.std.proofs.lemmas.Bool.Decides.{nat_tests}
 use Rattle.tables.specs.Table.{at}
-use Rattle.tables.proofs.Cases.{both, either}
+use Rattle.tables.proofs.Cases.{either}
 use Rattle.text.specs.Decimal.{zero_code, is_digit, Digits, value_after, value, decimal_within, decimal, DecimalMeans}
 
 pub digit_range : (b : ℕ) → is_digit b ≡ true → (zero_code ≤ b) × (b ≤ zero_code + 9)
-digit_range b digit =
-    let (low, high) = both (leb zero_code b) (leb b (zero_code + 9)) digit in
-    (leb-true zero_code b low, leb-true b (zero_code + 9) high)
+digit_range b digit = (grind (arith, nat_tests), grind (arith, nat_tests))
 
 code_digit : (d : ℕ) → d < 10 → is_digit (zero_code + d) ≡ true
-code_digit d small =
-    rw (le-leb zero_code (zero_code + d) (omega arith), le-leb (zero_code + d) (zero_code + 9) (omega arith))
+code_digit d small = grind (arith, nat_tests)
 
 no_digits : Digits []
 no_digits i less = absurd (not-suc-le-zero less)

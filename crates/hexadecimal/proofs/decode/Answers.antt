@@ -1,18 +1,12 @@
 -- `hexadecimal::decode` meets its contract.
-use native.Mathlib.Omega.{arith}
-use Rattle.hexadecimal.proofs.Digits.{digit_value_small}
+use Rattle.std.proofs.Common.{arith}
 use Rattle.hexadecimal.proofs.Writing.{decoded_more, decoded_end}
 use Rattle.hexadecimal.proofs.decode.Goals as goal
 
-pub overflow_mul-output : goal.overflow_mul-output
-overflow_mul-output c = omega (arith, digit_value_small _ c.digit_value.ensures)
-
-pub overflow_add-output : goal.overflow_add-output
-overflow_add-output c = omega (arith, digit_value_small _ c.digit_value.ensures, digit_value_small _ c.digit_value-in-loop-i.ensures)
-
 pub loop-i-preserved : goal.loop-i-preserved
 loop-i-preserved c =
-    decoded_more _ c.requires c.loop-i.invariant (omega arith) c.digit_value.ensures c.digit_value-in-loop-i.ensures
+    rw (c.digit_value.ensures.0, c.digit_value-in-loop-i.ensures.0)
+    (decoded_more _ c.loop-i.invariant c.as_chunks.ensures.front c.requires (omega (arith, c.as_chunks.ensures.front_len)))
 
 pub returns : goal.returns
-returns c = decoded_end _ c.requires c.loop-i.invariant c.loop-i-test.false
+returns c = rw (c.as_chunks.ensures.front_len) (decoded_end _ c.loop-i.invariant (omega arith))

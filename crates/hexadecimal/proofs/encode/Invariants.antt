@@ -1,12 +1,8 @@
--- The measure and the invariant of `hexadecimal::encode`.
-use Prim.Native.Nat.{◌-◌, ◌*◌}
-use lib.ListN.{length}
-use Rattle.text.proofs.Runs.{WrittenTo}
+-- The invariant of `hexadecimal::encode`.
+use Rattle.std.proofs.Common.{take}
+use Rattle.text.specs.Text.{Wrote}
 use Rattle.hexadecimal.specs.Hexadecimal.{encoded}
 use Rattle.hexadecimal.proofs.encode.Given as goal
 
-abbrev pub invariant-loop-i : goal.invariant-loop-i
-invariant-loop-i l = WrittenTo l.place (encoded l.bytes) l.initial.output (2 * l.i) l.output
-
-abbrev pub decreases-loop-i : goal.decreases-loop-i
-decreases-loop-i l = length l.bytes - l.i
+abbrev pub invariant-loop-byte : goal.invariant-loop-byte
+invariant-loop-byte l = Wrote (encoded (take l.byte-index l.bytes)) l.initial.writer l.writer

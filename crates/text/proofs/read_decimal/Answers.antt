@@ -1,18 +1,16 @@
 -- `text::read_decimal` meets its contract.
-use native.Mathlib.Omega.{arith}
+use Rattle.std.proofs.Common.{arith}
 use Rattle.text.proofs.Reading.{read_more, read_fits, read_end}
 use Rattle.text.proofs.read_decimal.Goals as goal
 
 pub overflow_mul-number : goal.overflow_mul-number
-overflow_mul-number c = omega (arith, read_fits c.loop-i.invariant c.requires.0 c.loop-i-test.true)
+overflow_mul-number c = omega (arith, read_fits c.requires.1 c.loop-digit.invariant c.requires.0 c.loop-digit-test.true)
 
 pub overflow_add-number : goal.overflow_add-number
-overflow_add-number c =
-    omega (arith, read_fits c.loop-i.invariant c.requires.0 (omega arith), c.digit_value.ensures.1)
+overflow_add-number c = omega (arith, read_fits c.requires.1 c.loop-digit.invariant c.requires.0 c.loop-digit-test.true)
 
-pub loop-i-preserved : goal.loop-i-preserved
-loop-i-preserved c =
-    read_more c.loop-i.invariant _ (omega arith) c.digit_value.ensures.0 c.digit_value.ensures.1
+pub loop-digit-preserved : goal.loop-digit-preserved
+loop-digit-preserved c = rw c.from.ensures (read_more c.requires.1 c.loop-digit.invariant c.loop-digit-test.true)
 
 pub returns : goal.returns
-returns c = read_end c.loop-i.invariant (omega arith)
+returns c = read_end c.requires.1 c.loop-digit.invariant c.loop-digit-test.false

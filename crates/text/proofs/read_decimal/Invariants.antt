@@ -1,11 +1,6 @@
--- The measure and the invariant of `text::read_decimal`.
-use Prim.Native.Nat.{◌-◌}
-use lib.ListN.{length}
+-- The invariant of `text::read_decimal`.
 use Rattle.text.proofs.Reading.{ReadTo}
 use Rattle.text.proofs.read_decimal.Given as goal
 
-abbrev pub invariant-loop-i : goal.invariant-loop-i
-invariant-loop-i l = ReadTo l.digits l.i l.number
-
-abbrev pub decreases-loop-i : goal.decreases-loop-i
-decreases-loop-i l = length l.digits - l.i
+abbrev pub invariant-loop-digit : goal.invariant-loop-digit
+invariant-loop-digit l = ReadTo l.digits l.digit-index l.number

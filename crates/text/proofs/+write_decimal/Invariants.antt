@@ -1,5 +1,0 @@
--- The measure of `text::write_decimal`: the number that is left.
-use Rattle.text.proofs.+write_decimal.Given as goal
-
-abbrev pub decreases-write_decimal : goal.decreases-write_decimal
-decreases-write_decimal l = l.n

@@ -7,7 +7,7 @@ use lib.Ieee.Bits.{is_true}
 use lib.Ieee.Exact.{HasValue}
 use lib.Ieee.Fits.{down_pos}
 use lib.Ieee.Order.{le_of_values}
-use Rattle.tables.proofs.Cases.{both}
+use Rattle.std.proofs.lemmas.Bool.{and_parts}
 use Rattle.dial.specs.Dial.{may_have_sign, IsExactly}
 
 -- a float that is a / c is k exactly if a / c is
@@ -116,7 +116,7 @@ equal y x k at = of_plus (λ (x : Float). eq x y ≡ true → IsExactly y k 1) x
     go (fin s m e) n d same equals =
         let a = n * up d * down e in
         let b = m * up e * down d in
-        let (value, sign) = both (eqb a b) (beq false s || eqb a 0) equals in
+        let (value, sign) = and_parts (eqb a b) (beq false s || eqb a 0) equals in
         (same_value (fin s m e) s (n * up d) (down d) k (down_pos d) (refl, sym (eqb-true a b value))).1
         (signed s a (λ zero. vanish k d (sym same ∙ vanish (n * up d) e zero)) sign, same)
 
@@ -182,4 +182,4 @@ within y x top at fits low = of_plus (λ (x : Float). le y x ≡ true → Within
     go (fin true m e) low n d same high =
         let a = 0 * 1 * down e in
         let b = m * up e * 1 in
-        within_minus m e top (eqb-true a b (both (eqb a b) (eqb a 0) low).0)
+        within_minus m e top (eqb-true a b (and_parts (eqb a b) (eqb a 0) low).0)

@@ -1,16 +1,15 @@
 -- What the strength dial's commands are decoded to, by the exact values of their floats (document 02, wish 1: "an amount counts only if it
 -- is exactly k/256, k from 0 to 256; minus zero is zero in both"; "Hold takes a whole intensity 0 to 765").
-use Rattle.std.specs.Prelude.{◌≡◌, ℕ, ◌*◌, ◌/◌, ◌≤◌, Bool, true, false, cond, not, ◌&&◌, ◌||◌, ◌↔◌, pos, ◌==◌, nat_le, Float}
+use Rattle.std.specs.Prelude.{◌≡◌, ℕ, ◌*◌, ◌/◌, ◌≤◌, Bool, true, false, cond, not, ◌&&◌, ◌||◌, ◌↔◌, pos, ◌==◌, nat_le, Float, Option, None, Some, Result, Ok, Err}
+use Rattle.refusal.specs.Numbers.{number_in}
+use Rattle.refusal.specs.declared.Refusal.{Refusal}
+use Rattle.refusal.specs.declared.Refusal.TheVariants.{NotAStop, NotAnIntensity}
 use Rattle.std.specs.Float.{nan, inf, fin}
 use Rattle.std.specs.Float.Ieee.{up, down}
 use Rattle.settings.specs.declared.Setting.{Setting}
 use Rattle.settings.specs.declared.Setting.TheVariants as S
 use Rattle.dial.specs.declared.Dial.{Dial}
 use Rattle.dial.specs.declared.Dial.TheVariants as D
-use Rattle.dial.specs.declared.Decoded.{Decoded}
-use Rattle.dial.specs.declared.Decoded.TheVariants.{Accepted, NotAStop, NotAnIntensity}
-use Rattle.dial.specs.declared.Whole.{Whole}
-use Rattle.dial.specs.declared.Whole.TheVariants.{Is, Not}
 
 -- Whether k may have this sign (true: minus): a minus sign stands before 0 only.
 abbrev pub may_have_sign : ℕ → Bool → Bool
@@ -23,42 +22,43 @@ IsExactly (inf s) k n = ⊥
 IsExactly (fin s m e) k n = (may_have_sign k s ≡ true) × (m * up e * n ≡ k * down e)
 
 -- k, where it is num / den with this sign and at most top.
-abbrev pub whole_if : Bool → ℕ → ℕ → ℕ → ℕ → Whole
-whole_if s num den top k = cond (may_have_sign k s && (num == k * den && nat_le k top)) (Is k) Not
+abbrev pub whole_if : Bool → ℕ → ℕ → ℕ → ℕ → Option ℕ
+whole_if s num den top k = cond (may_have_sign k s && (num == k * den && nat_le k top)) (Some k) None
 
 -- n times the exact value of a float, where that is a whole number from 0 to top: only its whole part can be it.
-unfoldable pub whole_of : ℕ → ℕ → Float → Whole
-whole_of n top nan = Not
-whole_of n top (inf s) = Not
+unfoldable pub whole_of : ℕ → ℕ → Float → Option ℕ
+whole_of n top nan = None
+whole_of n top (inf s) = None
 whole_of n top (fin s m e) = whole_if s (m * up e * n) (down e) top (m * up e * n / down e)
 
+-- What a command is decoded to: a setting, or what is wrong with it.
+abbrev pub Decoded : Type 0
+Decoded = Result Setting Refusal
+
 -- An amount's whole number is the stop.
-abbrev pub as_mix : Whole → Decoded
-as_mix (Is k) = Accepted (S.Mix k)
-as_mix Not = NotAStop
+abbrev pub as_mix : Option ℕ → Decoded
+as_mix (Some k) = Ok (S.Mix k)
+as_mix None = Err NotAStop
 
 -- A held value's is the intensity.
-abbrev pub as_hold : Whole → Decoded
-as_hold (Is k) = Accepted (S.Hold k)
-as_hold Not = NotAnIntensity
+abbrev pub as_hold : Option ℕ → Decoded
+as_hold (Some k) = Ok (S.Hold k)
+as_hold None = Err NotAnIntensity
 
 -- What a command is decoded to.
 abbrev pub decoded : Dial → Decoded
-decoded D.Off = Accepted S.Off
+decoded D.Off = Ok S.Off
 decoded (D.Mix x) = as_mix (whole_of 256 256 x)
 decoded (D.Hold x) = as_hold (whole_of 1 765 x)
 
 -- The number handed back ("amount not a stop, 17; held value not such a whole number, 18").
 abbrev pub refusal_of : Decoded → ℕ
-refusal_of (Accepted setting) = 0
-refusal_of NotAStop = 17
-refusal_of NotAnIntensity = 18
+refusal_of = number_in
 
 -- The setting; off where the command is refused.
 abbrev pub setting_of : Decoded → Setting
-setting_of (Accepted setting) = setting
-setting_of NotAStop = S.Off
-setting_of NotAnIntensity = S.Off
+setting_of (Ok setting) = setting
+setting_of (Err refusal) = S.Off
 
 -- The full balance: the mix at amount 1.
 abbrev pub full_balance : Dial
@@ -67,11 +67,11 @@ full_balance = D.Mix (fin false 1 (pos 0))
 -- Claim: decoding is exact. Proved: proofs/Exact.antt, `decoding_is_exact`.
 pub record DecodingIsExact : Type 0 where
   -- off is off
-  pub off : decoded D.Off ≡ Accepted S.Off
+  pub off : decoded D.Off ≡ Ok S.Off
   -- an amount is decoded to the stop k exactly if it is k / 256, k from 0 to 256
-  pub mixes : (x : Float) (k : ℕ) → (decoded (D.Mix x) ≡ Accepted (S.Mix k)) ↔ (k ≤ 256) × IsExactly x k 256
+  pub mixes : (x : Float) (k : ℕ) → (decoded (D.Mix x) ≡ Ok (S.Mix k)) ↔ (k ≤ 256) × IsExactly x k 256
   -- a held value is decoded to the intensity k exactly if it is k, from 0 to 765
-  pub holds : (x : Float) (k : ℕ) → (decoded (D.Hold x) ≡ Accepted (S.Hold k)) ↔ (k ≤ 765) × IsExactly x k 1
+  pub holds : (x : Float) (k : ℕ) → (decoded (D.Hold x) ≡ Ok (S.Hold k)) ↔ (k ≤ 765) × IsExactly x k 1
   -- every other amount is refused by 17
   pub no_stop : (x : Float) → ((k : ℕ) → k ≤ 256 → IsExactly x k 256 → ⊥) → refusal_of (decoded (D.Mix x)) ≡ 17
   -- every other held value is refused by 18

@@ -2,8 +2,9 @@
 #![tactic(auto)]
 
 ghost use Rattle.std.specs.Prelude.{◌≡◌};
-ghost use Rattle.dial.specs.Dial.{whole_of, decoded, refusal_of, setting_of};
+ghost use Rattle.dial.specs.Dial.{whole_of, decoded};
 
+use refusal::Refusal;
 use settings::Setting;
 
 // The panel's command, as it was sent.
@@ -14,86 +15,51 @@ pub enum Dial {
     Hold(f32),
 }
 
-// What a command is decoded to: a setting, or what is wrong with it.
-#[derive(Clone, Copy)]
-pub enum Decoded {
-    Accepted(Setting),
-    NotAStop,
-    NotAnIntensity,
-}
-
-// A whole number, or none.
-#[derive(Clone, Copy)]
-enum Whole {
-    Is(u32),
-    Not,
-}
-
 // The whole number from 0 to top that y is exactly. The tests of the range come first, so that cutting off a fraction is defined: they refuse NaN and the
 // infinities, and let minus zero pass. A fraction that was cut off makes the comparison fail.
-fn whole_of(y: f64, top: u32) -> Whole
+fn whole_of(y: f64, top: u32) -> Option<u32>
     ensures { result ≡ whole_of 1 top y }
 {
+    let last = f64::from(top);
     if y >= 0.0 {
-        if y <= top as f64 {
+        if y <= last {
             let k = std::num::truncating_f64_to_u64(y);
+            // no From makes an f64 of a u64
             if (k as f64) == y {
-                return Whole::Is(k as u32);
+                return Some(k as u32);
             }
         }
     }
-    Whole::Not
+    None
 }
 
 // The k from 0 to 256 with x = k / 256. In 64 bits the product of every finite x is exact.
-fn stop(x: f32) -> Whole
+fn stop(x: f32) -> Option<u32>
     ensures { result ≡ whole_of 256 256 x }
 {
-    whole_of(std::num::f32_to_f64_with_nan(x) * 256.0, 256)
+    whole_of(f64::from(x) * 256.0, 256)
 }
 
 // The whole number from 0 to 765 that x is exactly.
-fn intensity(x: f32) -> Whole
+fn intensity(x: f32) -> Option<u32>
     ensures { result ≡ whole_of 1 765 x }
 {
-    whole_of(std::num::f32_to_f64_with_nan(x), 765)
+    whole_of(f64::from(x), 765)
 }
 
-// Decodes a command, for every float that it may carry.
-pub fn decode(dial: Dial) -> Decoded
+// Decodes a command, for every float that it may carry. Refused: 17, the amount is not a stop; 18, the held value is not a whole intensity.
+pub fn decode(dial: Dial) -> Result<Setting, Refusal>
     ensures { result ≡ decoded dial }
 {
     match dial {
-        Dial::Off => Decoded::Accepted(Setting::Off),
-        Dial::Mix(x) => match stop(x) {
-            Whole::Is(k) => Decoded::Accepted(Setting::Mix(k)),
-            Whole::Not => Decoded::NotAStop,
-        },
-        Dial::Hold(x) => match intensity(x) {
-            Whole::Is(k) => Decoded::Accepted(Setting::Hold(k)),
-            Whole::Not => Decoded::NotAnIntensity,
-        },
-    }
-}
-
-// 0, or the number of the refusal: 17, the amount is not a stop; 18, the held value is not a whole intensity.
-pub fn refusal_of(decoded: Decoded) -> u32
-    ensures { result ≡ refusal_of decoded }
-{
-    match decoded {
-        Decoded::Accepted(_) => 0,
-        Decoded::NotAStop => refusal::NOT_A_STOP,
-        Decoded::NotAnIntensity => refusal::NOT_AN_INTENSITY,
-    }
-}
-
-// The setting, and off for a command that is refused: nothing uses it then.
-pub fn setting_of(decoded: Decoded) -> Setting
-    ensures { result ≡ setting_of decoded }
-{
-    match decoded {
-        Decoded::Accepted(setting) => setting,
-        Decoded::NotAStop => Setting::Off,
-        Decoded::NotAnIntensity => Setting::Off,
+        Dial::Off => Ok(Setting::Off),
+        Dial::Mix(x) => {
+            let k = stop(x).ok_or(Refusal::NotAStop)?;
+            Ok(Setting::Mix(k))
+        }
+        Dial::Hold(x) => {
+            let v = intensity(x).ok_or(Refusal::NotAnIntensity)?;
+            Ok(Setting::Hold(v))
+        }
     }
 }

@@ -12,7 +12,7 @@ use lib.Seq.{drop-cons}
 use borrow.Author.Tests.{eqb-true}
 use Rattle.tables.specs.Table.{at, ◌among◌}
 use Rattle.pixel.specs.Move.{Channel.red, Channel.green, Channel.blue, InRange, intensity}
-use Rattle.pixel.specs.Strip.{is_whole, pixels_of, bytes_of, pixel_from, pixel_at, Bytes}
+use Rattle.pixel.specs.Strip.{is_whole, pixels_of, bytes_of, pixel_at, Bytes}
 use Rattle.pixel.specs.declared.Pixel.{Pixel}
 
 -- a whole number of pixels leaves no byte over
@@ -67,8 +67,3 @@ drop_three strip i h =
     ∙ ap (λ (l : List ℕ). at strip i ∷ l)
     (drop-cons strip (suc i) 0 (omega arith)
     ∙ ap (λ (l : List ℕ). at strip (suc i) ∷ l) (drop-cons strip (suc (suc i)) 0 (omega arith))))
-
--- its pixel, and then the pixels of what follows
-pub drop_pixel : (strip : List ℕ) (i : ℕ) → i + 2 < length strip
-    → pixels_of (drop i strip) ≡ pixel_from strip i ∷ pixels_of (drop (i + 3) strip)
-drop_pixel strip i h = ap pixels_of (drop_three strip i h)

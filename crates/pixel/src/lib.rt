@@ -1,26 +1,41 @@
 // Moving a pixel to a target intensity (document 01, "Moving a pixel").
 #![tactic(auto)]
 
-ghost use Rattle.std.specs.Prelude.{◌≡◌, true, ◌+◌, ◌-◌, ◌*◌, ◌<◌, ◌≤◌, length};
-ghost use Rattle.refusal.specs.Refusal.{first_of};
+ghost use Rattle.std.specs.Prelude.{◌≡◌, [], ◌∷◌, true, ◌+◌, ◌-◌, ◌*◌, ◌<◌, ◌≤◌, length};
 ghost use Rattle.rounding.specs.Near.{near};
-ghost use Rattle.pixel.specs.Methods.{is_method, method_of};
+ghost use Rattle.pixel.specs.Methods.{MethodNamed};
 ghost use Rattle.pixel.specs.Lines.{up_from, down_from, naik_murthy_line, yang_lee_line, line_of, on_line};
-ghost use Rattle.pixel.specs.Move.{moved_sample, moved};
-ghost use Rattle.pixel.specs.MoveOne.{move_checks, refused_move, moved_one};
-ghost use Rattle.pixel.specs.Strip.{pixel_from};
+ghost use Rattle.pixel.specs.Move.{intensity, moved_sample, moved};
+ghost use Rattle.pixel.specs.MoveOne.{move_answer, moved_one};
+ghost use Rattle.pixel.specs.Strip.{pixel_from, bytes_of};
 ghost use Rattle.pixel.specs.Inner.{AtMostWhite};
 ghost use Rattle.pixel.specs.Moving.{Moving, PixelSample, MovingSample};
 
+use refusal::Refusal;
+
 // The two methods of source 004: 2.1 and 2.2.
-#[derive(Clone, Copy)]
+#[derive(Clone, Copy, Debug, PartialEq, Eq)]
 pub enum Method {
     NaikMurthy,
     YangLee,
 }
 
+impl TryFrom<u32> for Method {
+    type Error = Refusal;
+
+    ghost try_from_gives = { MethodNamed };
+
+    fn try_from(number: u32) -> Result<Method, Refusal> {
+        match number {
+            1 => Ok(Method::NaikMurthy),
+            2 => Ok(Method::YangLee),
+            _ => Err(Refusal::NoSuchMethod),
+        }
+    }
+}
+
 // How a line counts its samples: up from black, or down from white.
-#[derive(Clone, Copy)]
+#[derive(Clone, Copy, Debug, PartialEq, Eq)]
 pub enum Direction {
     Up,
     Down,
@@ -28,7 +43,7 @@ pub enum Direction {
 
 // The line along which the samples of all pixels of one intensity move to one target: a sample at the distance x from `start` goes to
 // near(x × numerator / denominator), counted up from black or down from white.
-#[derive(Clone, Copy)]
+#[derive(Clone, Copy, Debug, PartialEq, Eq)]
 pub struct Line {
     pub direction: Direction,
     pub start: u64,
@@ -37,21 +52,44 @@ pub struct Line {
 }
 
 // Three samples, 0 to 255 each.
-#[derive(Clone, Copy)]
+#[derive(Clone, Copy, Debug, PartialEq, Eq)]
 pub struct Pixel {
     pub r: u8,
     pub g: u8,
     pub b: u8,
 }
 
-// The answer of a single move: 0 or the refusal's number, and the pixel, black where refused.
-#[derive(Clone, Copy)]
-pub struct Moved {
-    pub number: u32,
-    pub pixel: Pixel,
+impl From<[u8; 3]> for Pixel {
+    ghost from_gives = { λ bytes pixel. pixel ≡ pixel_from bytes 0 };
+
+    fn from(bytes: [u8; 3]) -> Pixel {
+        let [r, g, b] = bytes;
+        Pixel { r, g, b }
+    }
 }
 
-// near(x × n / d), the product rounded once.
+impl From<Pixel> for [u8; 3] {
+    ghost from_gives = { λ pixel bytes. bytes ≡ bytes_of (pixel ∷ []) };
+
+    fn from(pixel: Pixel) -> [u8; 3] {
+        [pixel.r, pixel.g, pixel.b]
+    }
+}
+
+impl Pixel {
+    // All samples are 0.
+    pub const BLACK: Pixel = Pixel { r: 0, g: 0, b: 0 };
+
+    // The sum of the samples. The contract hands its range on, so that it is a place in a table of 766.
+    pub fn intensity(self) -> usize
+        ensures { (result ≡ intensity self) × (result ≤ 765) }
+    {
+        usize::from(self.r) + usize::from(self.g) + usize::from(self.b)
+    }
+}
+
+// near(x × n / d), the product rounded once. (x, n and d are numbers with a clause here and in the next functions: a type for the three would
+// be taken apart at once.)
 fn rounded_product(x: u64, n: u64, d: u64) -> u64
     requires { AtMostWhite x n d }
     ensures { result ≡ near (x * n) d }
@@ -59,7 +97,7 @@ fn rounded_product(x: u64, n: u64, d: u64) -> u64
     rounding::rounded(x * n, d)
 }
 
-// A number of at most 255 as a sample.
+// A number of at most 255 as a sample. (Behind a name, so that no caller proves again that it fits.)
 fn byte(x: u64) -> u8
     requires { x ≤ 255 }
     ensures { result ≡ x }
@@ -83,7 +121,8 @@ fn scaled_from_white(x: u64, n: u64, d: u64) -> u8
     255 - scaled(x, n, d)
 }
 
-// Counted up from black: 0 at the sample `start`, and n / d more with each step above it.
+// Counted up from black: 0 at the sample `start`, and n / d more with each step above it. (It and `down_from` are two names, and not one
+// function with a direction, so that lines read as in the definitions.)
 fn up_from(start: u64, n: u64, d: u64) -> Line
     ensures { result ≡ up_from start n d }
 {
@@ -107,7 +146,8 @@ fn down_from(start: u64, n: u64, d: u64) -> Line
     }
 }
 
-// Method 1's line for pixels of intensity s that are moved to the target f.
+// Method 1's line for pixels of intensity s that are moved to the target f. (Here and below s and f are numbers with a clause, and no type of
+// their own, so that a line reads as in the rules.)
 fn naik_murthy_line(s: u64, f: u64) -> Line
     requires { Moving s f }
     ensures { result ≡ naik_murthy_line s f }
@@ -172,8 +212,7 @@ fn along_line(method: Method, s: u64, f: u64, c: u64) -> u8
     ensures { result ≡ on_line (line_of method s f) c }
 {
     let line = line_of(method, s, f);
-    let direction = line.direction;
-    match direction {
+    match line.direction {
         Direction::Up => scaled(c - line.start, line.numerator, line.denominator),
         Direction::Down => scaled_from_white(line.start - c, line.numerator, line.denominator),
     }
@@ -198,89 +237,42 @@ pub fn read_pixel(strip: &[u8], i: usize) -> Pixel
     requires { i + 2 < length strip.now }
     ensures { result ≡ pixel_from strip.now i }
 {
-    Pixel {
-        r: strip[i],
-        g: strip[i + 1],
-        b: strip[i + 2],
-    }
-}
-
-// The intensity of a pixel. The contract hands its range on, so that it is a place in a table of 766.
-pub fn intensity_of(r: u8, g: u8, b: u8) -> usize
-    ensures { (result ≡ r + g + b) × (result ≤ 765) }
-{
-    r as usize + g as usize + b as usize
+    Pixel::from([strip[i], strip[i + 1], strip[i + 2]])
 }
 
 // The pixel, moved to a target of at most 765.
+#[tactic(auto, unfolding(crate::specs::Move::moved))]
 fn move_pixel(method: Method, pixel: Pixel, target: u32) -> Pixel
     requires { target ≤ 765 }
     ensures { result ≡ moved method pixel target }
 {
-    let r = pixel.r as u64;
-    let g = pixel.g as u64;
-    let b = pixel.b as u64;
-    let s = r + g + b;
-    let f = target as u64;
+    // no From makes a u64 of a usize
+    let s = pixel.intensity() as u64;
+    let f = u64::from(target);
     Pixel {
-        r: moved_sample(method, s, f, r),
-        g: moved_sample(method, s, f, g),
-        b: moved_sample(method, s, f, b),
+        r: moved_sample(method, s, f, u64::from(pixel.r)),
+        g: moved_sample(method, s, f, u64::from(pixel.g)),
+        b: moved_sample(method, s, f, u64::from(pixel.b)),
     }
 }
 
-// Whether a number names a method.
-pub fn is_method(number: u32) -> bool
-    ensures { result ≡ is_method number }
+// Moves one pixel to a target intensity. Refused: 7, the method is not 1 or 2; 9, the target is above 765. (The method comes as a number,
+// so that any other can be refused.)
+#[tactic(auto, unfolding(crate::specs::MoveOne::moved_one))]
+pub fn move_one(method: u32, pixel: Pixel, target: u32) -> Result<Pixel, Refusal>
+    ensures { move_answer result ≡ moved_one method pixel target }
 {
-    number == 1 || number == 2
-}
-
-// The method that a number names.
-pub fn method_of(number: u32) -> Method
-    requires { is_method number ≡ true }
-    ensures { result ≡ method_of number }
-{
-    if number == 1 {
-        return Method::NaikMurthy;
-    }
-    Method::YangLee
-}
-
-// 0, or the first refusal that applies to a single move.
-fn move_number(method: u32, target: u32) -> u32
-    ensures { result ≡ first_of (move_checks method target) }
-{
-    let known = is_method(method);
-    if !known {
-        return refusal::NO_SUCH_METHOD;
-    }
+    let method = Method::try_from(method)?;
     if 765 < target {
-        return refusal::TARGET_TOO_LARGE;
+        return Err(Refusal::TargetTooLarge);
     }
-    0
+    Ok(move_pixel(method, pixel, target))
 }
 
-// What a refused single move hands back: black beside its number.
-fn refused_move(number: u32) -> Moved
-    ensures { result ≡ refused_move number }
+// What a single move's answer is as a number and a pixel: a refused move's pixel is black.
+pub fn move_answer(moved: Result<Pixel, Refusal>) -> (u32, Pixel)
+    ensures { record { number = result.0; pixel = result.1 } ≡ move_answer moved }
 {
-    Moved {
-        number,
-        pixel: Pixel { r: 0, g: 0, b: 0 },
-    }
-}
-
-// Moves one pixel to a target intensity. Refused: 7, the method is not 1 or 2; 9, the target is above 765.
-pub fn move_one(method: u32, pixel: Pixel, target: u32) -> Moved
-    ensures { result ≡ moved_one method pixel target }
-{
-    let number = move_number(method, target);
-    if number != 0 {
-        return refused_move(number);
-    }
-    Moved {
-        number: 0,
-        pixel: move_pixel(method_of(method), pixel, target),
-    }
+    let number = refusal::number_in(&moved);
+    (number, moved.unwrap_or(Pixel::BLACK))
 }

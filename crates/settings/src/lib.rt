@@ -1,5 +1,5 @@
-// The settings of the strength dial (document 02, wish 1), in whole numbers, and the bytes of a mix and of off. (Held pixels are coloured by a
-// curve: see `colouring`.)
+// The settings of the strength dial (document 02, wish 1), in whole numbers, and the bytes of a mix. (Off and held pixels are
+// written in `colouring`.)
 #![tactic(auto)]
 
 ghost use Rattle.std.specs.Prelude.{◌≡◌, ◌≤◌, length};
@@ -7,7 +7,7 @@ ghost use Rattle.settings.specs.Setting.{mixed};
 ghost use Rattle.settings.specs.Inner.{mixed_bytes};
 
 // A command of the panel's dial, decoded: off; mix with an amount of k / 256, k from 0 to 256; or hold at an intensity, 0 to 765.
-#[derive(Clone, Copy)]
+#[derive(Clone, Copy, Debug, PartialEq, Eq)]
 pub enum Setting {
     Off,
     Mix(u32),
@@ -18,36 +18,25 @@ pub enum Setting {
 pub const FULL: u32 = 256;
 
 // The sample c of the source, mixed with its full balance. All of it fits 16 bits.
+#[tactic(auto, unfolding(crate::specs::Setting::mixed))]
 fn mix_sample(k: u16, c: u8, balance: u8) -> u8
     requires { k ≤ 256 }
     ensures { result ≡ mixed k c balance }
 {
-    (((c as u16) * (256 - k) + (balance as u16) * k + 128) / 256) as u8
+    ((u16::from(c) * (256 - k) + u16::from(balance) * k + 128) / 256) as u8
 }
 
 // The destination holds the full balance of the source; each of its samples is mixed with the source's. The loop does the same to every
-// byte, so that the compiler can take many at a time.
+// byte, so that the compiler can take many at a time. (A zip of the two slices would leave the bytes written unknown to the proof. k is a
+// number with a clause: a type that carries its bound would have to be made of a setting's number first.)
+#[tactic(auto, using(crate::proofs::Bytes::mixed_end))]
 pub fn mix_bytes(k: u32, source: &[u8], destination: &mut [u8])
     requires k_bound { k ≤ 256 }
     requires destination_len { length destination.old ≡ length source.now }
     ensures { destination.new ≡ mixed_bytes k source.now destination.old }
 {
     let stop = k as u16;
-    let mut i: usize = 0;
-    while i < source.len() {
-        destination[i] = mix_sample(stop, source[i], destination[i]);
-        i += 1;
-    }
-}
-
-// The source's bytes, copied.
-pub fn copy_bytes(source: &[u8], destination: &mut [u8])
-    requires { length destination.old ≡ length source.now }
-    ensures { destination.new ≡ source.now }
-{
-    let mut i: usize = 0;
-    while i < source.len() {
-        destination[i] = source[i];
-        i += 1;
+    for (i, x) in destination.iter_mut().enumerate() {
+        *x = mix_sample(stop, source[i], *x);
     }
 }

@@ -11,5 +11,5 @@ unfolding of_bits
 returns c =
     let x = c.args.x in
     c.whole_of.ensures
-    ∙ ap (λ (y : Float). whole_of 1 256 (times256 y)) c.f32_to_f64_with_nan.ensures
+    ∙ ap (λ (y : Float). whole_of 1 256 (times256 y)) c.from.ensures
     ∙ agree 256 256 x (times256 x) (scaled x (subst T (sym c.well_formed.0.1) tt))

@@ -25,24 +25,24 @@ at_most_top y top k passed cut = rw cut passed.few
 pub truncating_f64_to_u64-k-requires-clause-lower_bound : goal.truncating_f64_to_u64-k-requires-clause-lower_bound
 unfolding of_bits
 truncating_f64_to_u64-k-requires-clause-lower_bound c =
-    (in_range c.args.y c.args.top c.ranges.top.fits c.if-y.true c.if-y-top.true).above_minus_one
+    (in_range c.args.y c.args.top c.ranges.top.fits c.if-y.true (rw c.from-last.ensures at c.if-y-last.true)).above_minus_one
 
 pub truncating_f64_to_u64-k-requires-clause-upper_bound : goal.truncating_f64_to_u64-k-requires-clause-upper_bound
 unfolding of_bits
 truncating_f64_to_u64-k-requires-clause-upper_bound c =
-    (in_range c.args.y c.args.top c.ranges.top.fits c.if-y.true c.if-y-top.true).below_the_end
+    (in_range c.args.y c.args.top c.ranges.top.fits c.if-y.true (rw c.from-last.ensures at c.if-y-last.true)).below_the_end
 
 pub int_to_float-k : goal.int_to_float-k
 unfolding in_float of_bits
 int_to_float-k c =
-    let passed = in_range c.args.y c.args.top c.ranges.top.fits c.if-y.true c.if-y-top.true in
+    let passed = in_range c.args.y c.args.top c.ranges.top.fits c.if-y.true (rw c.from-last.ensures at c.if-y-last.true) in
     let few = at_most_top _ _ _ passed c.truncating_f64_to_u64-k.ensures in
     le→leb c.truncating_f64_to_u64-k.result (2 ^ 53) (le_trans (le_of_lt (lt_of_le_of_lt few c.ranges.top.fits)) (lit≤ tt))
 
 pub overflow_cast-result : goal.overflow_cast-result
 unfolding of_bits
 overflow_cast-result c =
-    let passed = in_range c.args.y c.args.top c.ranges.top.fits c.if-y.true c.if-y-top.true in
+    let passed = in_range c.args.y c.args.top c.ranges.top.fits c.if-y.true (rw c.from-last.ensures at c.if-y-last.true) in
     let few = at_most_top _ _ _ passed c.truncating_f64_to_u64-k.ensures in
     record { fits = lt_of_le_of_lt few c.ranges.top.fits }
 
@@ -50,7 +50,7 @@ overflow_cast-result c =
 pub returns-then-k-y : goal.returns-then-k-y
 unfolding of_bits
 returns-then-k-y c =
-    let passed = in_range c.args.y c.args.top c.ranges.top.fits c.if-y.true c.if-y-top.true in
+    let passed = in_range c.args.y c.args.top c.ranges.top.fits c.if-y.true (rw c.from-last.ensures at c.if-y-last.true) in
     let few = at_most_top _ _ _ passed c.truncating_f64_to_u64-k.ensures in
     sym (complete 1 _ _ _ few (equal _ _ _ (float_of _ (lt_of_le_of_lt few c.ranges.top.fits)) c.if-k-y.true))
 
@@ -74,9 +74,9 @@ pub returns-else-y : goal.returns-else-y
 unfolding of_bits
 returns-else-y c = sym (none 1 c.args.top c.args.y (λ k range exact. false≢true (sym c.if-y.false ∙ (known c.args.y k exact).above)))
 
-pub returns-else-y-top : goal.returns-else-y-top
-returns-else-y-top c =
+pub returns-else-y-last : goal.returns-else-y-last
+returns-else-y-last c =
     let top = float_of c.args.top c.ranges.top.fits in
     sym
     (none 1 c.args.top c.args.y
-    (λ k range exact. false≢true (sym c.if-y-top.false ∙ (known c.args.y k exact).below _ _ top range)))
+    (λ k range exact. false≢true (sym (rw c.from-last.ensures at c.if-y-last.false) ∙ (known c.args.y k exact).below _ _ top range)))

@@ -75,6 +75,11 @@ G-rises j k h l = ⊎_elim (λ e. rw e (le_refl _)) (λ m. le_of_lt (targets_are
 pub G-le : (k : ℕ) → k ≤ 765 → G k ≤ 99488250
 G-le k h = omega (arith, G-rises k 765 h (le_refl 765), targets_are_right.at765)
 
+-- a target times w fits into 64 bits
+pub scaled_fits : (w : ℕ) (targets : List ℕ) → w ≤ 2 ^ 32 → targets ≡ tabulate G 766 → (k : ℕ) → k < 766 → w * at targets k < 2 ^ 64
+scaled_fits w targets small are k h =
+    omega (arith, mul-le-mul small (le_trans (le_of_eq (at_table G 766 targets are k h)) (G-le k (omega arith))))
+
 module _ (w : ℕ) where
   -- the scaled targets do not fall
   scaled_rises : NonDecreasing (λ k. w * G k)
@@ -232,12 +237,28 @@ tone_curve_same choice N H H' same =
     ∙ curve_of_lem choice N H' (inner choice N H)
     (λ s h. ap (by_choice choice (full_count N)) (ap₂ share_count (previous_same H H' same s h) (same s h)))
 
--- The parts that the code makes, and the curve that comes of them.
-module _ (N : ℕ) (H : ℕ → ℕ) (full : ℕ) (shares : List ℕ) (fullIs : full ≡ full_count N) (sharesAre : shares ≡ tabulate (share_at H) 766) where
-  -- each share, read from its table
+-- The shares in a table.
+module _ (H : ℕ → ℕ) (shares : List ℕ) (sharesAre : shares ≡ tabulate (share_at H) 766) where
+  -- each share, read from it
   shares_at : (s : ℕ) → s ≤ 765 → at shares s ≡ share_at H s
   shares_at s h = at_table (share_at H) 766 shares sharesAre s (omega arith)
 
+  -- the shares of a cumulative histogram do not fall
+  pub shares_non_decreasing : {N : ℕ} → IsCumulative N H → NonDecreasing (at shares)
+  shares_non_decreasing is s t h l = rw (shares_at s (le_trans h l), shares_at t l) (shares_rise is s t h l)
+
+-- The scaled targets in a table.
+module _ (w : ℕ) (scaled : List ℕ) (scaledAre : scaled ≡ tabulate (λ k. w * G k) 766) where
+  -- each scaled target, read from it
+  scaled_at : (k : ℕ) → k ≤ 765 → at scaled k ≡ w * G k
+  scaled_at k h = at_table (λ k. w * G k) 766 scaled scaledAre k (omega arith)
+
+  -- they do not fall
+  pub scaled_non_decreasing : NonDecreasing (at scaled)
+  scaled_non_decreasing j k h l = rw (scaled_at j (le_trans h l), scaled_at k l) (scaled_rises w j k h l)
+
+-- The parts that the code makes, and the curve that comes of them.
+module _ (N : ℕ) (H : ℕ → ℕ) (full : ℕ) (shares : List ℕ) (fullIs : full ≡ full_count N) (sharesAre : shares ≡ tabulate (share_at H) 766) where
   -- the entries by a rule, with the ends set
   entries_curve : (choice : Choice) (f : ℕ → ℕ) (entries curve : List ℕ) → entries ≡ tabulate f 766
       → curve ≡ tabulate (with_ends (at entries)) 766 → ((s : ℕ) → s ≤ 765 → f s ≡ by_choice choice full (at shares s))
@@ -246,7 +267,7 @@ module _ (N : ℕ) (H : ℕ → ℕ) (full : ℕ) (shares : List ℕ) (fullIs : 
       curveIs
       ∙ curve_of_lem choice N H (at entries)
       (λ s h.
-      at_table f 766 entries entriesAre s (omega arith) ∙ same s h ∙ ap₂ (by_choice choice) fullIs (shares_at s h))
+      at_table f 766 entries entriesAre s (omega arith) ∙ same s h ∙ ap₂ (by_choice choice) fullIs (shares_at H shares sharesAre s h))
 
   -- choice 2: the curve, from the equalised entries
   pub equalised_curve : (entries curve : List ℕ) → entries ≡ tabulate (λ s. equalised_entry full (at shares s)) 766
@@ -256,15 +277,6 @@ module _ (N : ℕ) (H : ℕ → ℕ) (full : ℕ) (shares : List ℕ) (fullIs : 
 
   -- choice 1, with the scaled targets in a table
   module _ (scaled : List ℕ) (scaledAre : scaled ≡ tabulate (λ k. full * G k) 766) where
-    -- each scaled target, read from its table
-    scaled_at : (k : ℕ) → k ≤ 765 → at scaled k ≡ full * G k
-    scaled_at k h = at_table (λ k. full * G k) 766 scaled scaledAre k (omega arith)
-
-    -- the table does not fall
-    pub scaled_non_decreasing : NonDecreasing (at scaled)
-    scaled_non_decreasing j k h l =
-        rw (scaled_at j (le_trans h l), scaled_at k l) (scaled_rises full j k h l)
-
     -- the curve, from the nearest places
     pub cube_curve : (top : ℕ) (entries curve : List ℕ) → top ≡ G 765
         → entries ≡ tabulate (λ s. nearest_place (at scaled) 765 (top * at shares s)) 766
@@ -273,20 +285,16 @@ module _ (N : ℕ) (H : ℕ → ℕ) (full : ℕ) (shares : List ℕ) (fullIs : 
     cube_curve top entries curve topIs entriesAre curveIs =
         entries_curve Cube (λ s. nearest_place (at scaled) 765 (top * at shares s)) entries curve entriesAre curveIs
         (λ s h.
-        nearest_same (at scaled) (λ k. full * G k) 765 (top * at shares s) scaled_at
+        nearest_same (at scaled) (λ k. full * G k) 765 (top * at shares s) (scaled_at full scaled scaledAre)
         ∙ ap (λ (t : ℕ). nearest_place (λ k. full * G k) 765 (t * at shares s)) topIs)
 
-  -- the shares of a cumulative histogram do not fall
-  pub shares_non_decreasing : IsCumulative N H → NonDecreasing (at shares)
-  shares_non_decreasing is s t h l = rw (shares_at s (le_trans h l), shares_at t l) (shares_rise is s t h l)
-
-  -- and, of 1 to 2^31 pixels, are within the full count
+  -- the shares of a cumulative histogram of 1 to 2^31 pixels are within the full count
   pub shares_fit : 0 < N → N ≤ 2 ^ 31 → IsCumulative N H → SharesFit full shares
   shares_fit positive most is =
       record {
         some = rw fullIs (full_positive positive);
         most = rw fullIs (full_le most);
-        part = λ s h. rw (shares_at s h, fullIs) (shares_le is s h);
+        part = λ s h. rw (shares_at H shares sharesAre s h, fullIs) (shares_le is s h);
       }
 
 -- shares within the full count, each times a number up to G(765), fit into 64 bits

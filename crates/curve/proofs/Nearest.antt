@@ -9,7 +9,7 @@ use borrow.Author.Tests.{lt-ltb, le-ltb}
 use Rattle.tables.specs.Table.{at}
 use Rattle.tables.proofs.Cases.{either}
 use Rattle.measuring.specs.Histogram.{NonDecreasing}
-use Rattle.curve.specs.Inner.{Plateau, Bounding}
+use Rattle.curve.specs.Inner.{Bounding}
 use Rattle.curve.specs.Nearest.{distance, Nearest, nearer, nearest_place, NearestMeans}
 
 -- of two values b ≤ a, an aim that is nearer to a lies above their middle
@@ -96,46 +96,6 @@ nearest_same g g' n aim same = nearest_unique (carry (nearest_is g n aim)) (near
           within = a.within;
           least = λ j h. rw (← same k a.within, ← same j h) (a.least j h);
           first = λ j h. rw (← same k a.within, ← same j (le_trans (le_of_lt h) a.within)) (a.first j h);
-        }
-
--- The walk along g: `lower` follows `upper` where g rises, and stays where g is level.
-module _ {g : List ℕ} where
-  pub plateau_start : Plateau g 0 0
-  plateau_start =
-      record {
-        within = zero-le;
-        ordered = zero-le;
-        inside = λ h. h;
-        level = λ j l h. absurd (not-suc-le-zero h);
-        less = λ j h. absurd (not-suc-le-zero h);
-      }
-
-  module _ {lower upper : ℕ} (up : NonDecreasing (at g)) (l : Plateau g lower upper) (here : upper < 766) where
-    pub plateau_rises : at g lower < at g upper → Plateau g upper (upper + 1)
-    plateau_rises more =
-        record {
-          within = omega arith;
-          ordered = omega arith;
-          inside = λ h. omega arith;
-          level = λ j h k. let e : j ≡ upper = omega arith in rw e;
-          less = λ j h.
-              either lower j
-              (λ q. omega (arith, l.level j q h))
-              (λ q. omega (arith, l.less j q));
-        }
-
-    pub plateau_stays : at g upper ≤ at g lower → Plateau g lower (upper + 1)
-    plateau_stays least =
-        record {
-          within = omega arith;
-          ordered = omega (arith, l.ordered);
-          inside = λ h. omega (arith, l.ordered);
-          level = λ j h k.
-              ⊎_elim
-              (λ (e : j ≡ upper). rw e (le_antisymm least (up lower upper l.ordered (omega arith))))
-              (λ (m : j < upper). l.level j h m)
-              (eq-or-lt_of_le (omega arith));
-          less = l.less;
         }
 
 -- The four ends: `lower` and `upper` are the bounds of the aim.

@@ -1,38 +1,37 @@
 // The tone curve of a shot, from its histogram (document 01, "Fixing the curve").
 #![tactic(auto)]
 
-ghost use Rattle.std.specs.Prelude.{◌≡◌, true, ◌*◌, ◌^◌, ◌≤◌, ◌<◌};
+ghost use Rattle.std.specs.Prelude.{◌≡◌, ◌*◌, ◌^◌, ◌≤◌, ◌<◌};
 ghost use Rattle.tables.specs.Table.{tabulate, at};
 ghost use Rattle.targets.specs.Cube.{G};
 ghost use Rattle.measuring.specs.Histogram.{NonDecreasing, cumulative};
-ghost use Rattle.curve.specs.Choices.{is_choice, choice_of};
+ghost use Rattle.curve.specs.Choices.{ChoiceNamed};
 ghost use Rattle.curve.specs.Curve.{share_count, full_count, share_at, equalised_entry, with_ends, tone_curve};
 ghost use Rattle.curve.specs.Inner.{Plateau, Below, Bounding, HistogramOf, SharesFit, AimsFit};
 ghost use Rattle.curve.specs.Nearest.{nearest_place};
 
+use refusal::Refusal;
+use std::array;
+
 // The curve choices: the cube's (equation 14 of source 004) and the equalised one (equation 5).
-#[derive(Clone, Copy)]
+#[derive(Clone, Copy, Debug, PartialEq, Eq)]
 pub enum Choice {
     Cube,
     Equalised,
 }
 
-// Whether a number names a choice.
-pub fn is_choice(number: u32) -> bool
-    ensures { result ≡ is_choice number }
-{
-    number == 1 || number == 2
-}
+impl TryFrom<u32> for Choice {
+    type Error = Refusal;
 
-// The choice that a number names.
-pub fn choice_of(number: u32) -> Choice
-    requires { is_choice number ≡ true }
-    ensures { result ≡ choice_of number }
-{
-    if number == 1 {
-        return Choice::Cube;
+    ghost try_from_gives = { ChoiceNamed };
+
+    fn try_from(number: u32) -> Result<Choice, Refusal> {
+        match number {
+            1 => Ok(Choice::Cube),
+            2 => Ok(Choice::Equalised),
+            _ => Err(Refusal::NoSuchChoice),
+        }
     }
-    Choice::Equalised
 }
 
 // Where an aim lies in a sequence that does not fall: `upper` is the first place that holds at least the aim, or 766, and `lower` the
@@ -43,44 +42,65 @@ struct Bounds {
     upper: usize,
 }
 
-// The bounds of an aim, from those of an aim that is no larger. So the bounds of many aims, in order, are found in one walk.
-fn bounds_from(g: &[u64; 766], aim: u64, from: Bounds) -> Bounds
-    requires non_decreasing { NonDecreasing (at g.now) }
-    requires plateau { Plateau g.now from.lower from.upper × Below g.now aim from.upper }
-    ensures { Bounding g.now aim result.lower result.upper }
-{
-    let mut lower = from.lower;
-    let mut upper = from.upper;
-    while upper < 766 {
-        if aim <= g[upper] {
-            return Bounds { lower, upper };
-        }
-        if g[lower] < g[upper] {
-            lower = upper;
-        }
-        upper += 1;
-    }
-    Bounds { lower, upper }
+// A sequence that does not fall.
+#[derive(Clone, Copy)]
+struct NonFalling<'a> {
+    values: &'a [u64; 766],
+    ghost never_falls: { NonDecreasing (at values.now) },
 }
 
-// The smallest place at which the sequence lies nearest to the aim: one of the aim's bounds.
-fn nearest_place(g: &[u64; 766], aim: u64, bounds: Bounds) -> usize
-    requires non_decreasing { NonDecreasing (at g.now) }
-    requires bounding { Bounding g.now aim bounds.lower bounds.upper }
-    ensures { result ≡ nearest_place (at g.now) 765 aim }
-{
-    let lower = bounds.lower;
-    let upper = bounds.upper;
-    if upper == 0 {
-        return 0;
+impl NonFalling<'_> {
+    // The bounds of an aim, from those of an aim that is no larger. So the bounds of many aims, in order, are found in one walk, where a
+    // `partition_point` would search the sequence anew for each.
+    fn bounds_from(self, aim: u64, from: Bounds) -> Bounds
+        requires { Plateau self.values.now from.lower from.upper × Below self.values.now aim from.upper }
+        ensures { Bounding self.entry.values.now aim result.lower result.upper }
+    {
+        let mut lower = from.lower;
+        for upper in from.upper..766 {
+            if aim <= self.values[upper] {
+                return Bounds { lower, upper };
+            }
+            if self.values[lower] < self.values[upper] {
+                lower = upper;
+            }
+        }
+        Bounds { lower, upper: 766 }
     }
-    if 766 <= upper {
-        return lower;
+
+    // The smallest place at which the sequence lies nearest to the aim: one of the aim's bounds.
+    fn nearest_place(self, aim: u64, bounds: Bounds) -> usize
+        requires { Bounding self.values.now aim bounds.lower bounds.upper }
+        ensures { result ≡ nearest_place (at self.entry.values.now) 765 aim }
+    {
+        let lower = bounds.lower;
+        let upper = bounds.upper;
+        if upper == 0 {
+            return 0;
+        }
+        if 766 <= upper {
+            return lower;
+        }
+        if self.values[upper] - aim < aim - self.values[lower] {
+            return upper;
+        }
+        lower
     }
-    if g[upper] - aim < aim - g[lower] {
-        return upper;
+
+    // For each intensity the place of the sequence nearest to scale times its share count. (A loop, since bounds go on from entry to entry.)
+    fn nearest_entries(self, scale: u64, shares: NonFalling) -> [u16; 766]
+        requires { AimsFit scale shares.values.now }
+        ensures { result ≡ tabulate (λ s. nearest_place (at self.entry.values.now) 765 (scale * at shares.entry.values.now s)) 766 }
+    {
+        let mut entries = [0u16; 766];
+        let mut bounds = Bounds { lower: 0, upper: 0 };
+        for (s, share) in shares.values.iter().enumerate() {
+            let aim = scale * *share;
+            bounds = self.bounds_from(aim, bounds);
+            entries[s] = self.nearest_place(aim, bounds) as u16;
+        }
+        entries
     }
-    lower
 }
 
 // The targets, each times w.
@@ -88,20 +108,7 @@ fn scaled_by(w: u64, targets: [u64; 766]) -> [u64; 766]
     requires { (w ≤ 2 ^ 32) × (targets ≡ tabulate G 766) }
     ensures { result ≡ tabulate (λ k. w * G k) 766 }
 {
-    let mut scaled = [0u64; 766];
-    let mut k: usize = 0;
-    while k < 766 {
-        scaled[k] = w * targets[k];
-        k += 1;
-    }
-    scaled
-}
-
-// A count as a wider number. The contract hands its range on, since an element of a lent array has none that is known.
-fn wide(count: u32) -> u64
-    ensures { (result ≡ count) × (result < 2 ^ 32) }
-{
-    count as u64
+    array::from_fn(|k| w * targets[k])
 }
 
 // H(s), from H(s − 1) = `below` and H(s) = `upto`: what an entry counts of the pixels, behind a name of its own (`share_count`). 766 counts
@@ -114,45 +121,25 @@ fn share_count(below: u64, upto: u64) -> u64
 }
 
 // N, behind a name of its own too (`full_count`).
-fn full_count(pixels: u64) -> u64
+fn full_count(pixels: u32) -> u64
     requires { pixels ≤ 2 ^ 31 }
     ensures { result ≡ full_count pixels }
 {
-    pixels
+    u64::from(pixels)
 }
 
-// The share count of each intensity, from the cumulative counts.
+// The share count of each intensity, from the cumulative counts. (A loop, since a sum goes on from count to count.)
 fn shares_of(counts: &[u32; 766]) -> [u64; 766]
     ensures { result ≡ tabulate (share_at (cumulative counts.now)) 766 }
 {
     let mut shares = [0u64; 766];
-    let mut below: u64 = 0;
-    let mut s: usize = 0;
-    while s < 766 {
-        let upto = below + wide(counts[s]);
+    let mut below = 0;
+    for (s, count) in counts.iter().enumerate() {
+        let upto = below + u64::from(*count);
         shares[s] = share_count(below, upto);
         below = upto;
-        s += 1;
     }
     shares
-}
-
-// For each intensity the place of the sequence nearest to scale times its share count.
-fn nearest_entries(g: &[u64; 766], scale: u64, shares: &[u64; 766]) -> [u16; 766]
-    requires non_decreasing { NonDecreasing (at g.now) × NonDecreasing (at shares.now) }
-    requires aims_fit { AimsFit scale shares.now }
-    ensures { result ≡ tabulate (λ s. nearest_place (at g.now) 765 (scale * at shares.now s)) 766 }
-{
-    let mut entries = [0u16; 766];
-    let mut bounds = Bounds { lower: 0, upper: 0 };
-    let mut s: usize = 0;
-    while s < 766 {
-        let aim = scale * shares[s];
-        bounds = bounds_from(g, aim, bounds);
-        entries[s] = nearest_place(g, aim, bounds) as u16;
-        s += 1;
-    }
-    entries
 }
 
 // 765 times a share count over the full one, rounded once.
@@ -168,23 +155,16 @@ fn equalised_entries(full: u64, shares: &[u64; 766]) -> [u16; 766]
     requires { SharesFit full shares.now }
     ensures { result ≡ tabulate (λ s. equalised_entry full (at shares.now s)) 766 }
 {
-    let mut entries = [0u16; 766];
-    let mut s: usize = 0;
-    while s < 766 {
-        entries[s] = equalised_entry(full, shares[s]);
-        s += 1;
-    }
-    entries
+    array::from_fn(|s| equalised_entry(full, shares[s]))
 }
 
 // Black and white stay.
-fn with_ends(entries: [u16; 766]) -> [u16; 766]
+fn with_ends(mut entries: [u16; 766]) -> [u16; 766]
     ensures { result ≡ tabulate (with_ends (at entries)) 766 }
 {
-    let mut curve = entries;
-    curve[0] = 0;
-    curve[765] = 765;
-    curve
+    entries[0] = 0;
+    entries[765] = 765;
+    entries
 }
 
 // The tone curve of a histogram.
@@ -192,14 +172,16 @@ pub fn tone_curve(choice: Choice, pixels: u32, counts: &[u32; 766]) -> [u16; 766
     requires { HistogramOf pixels counts.now }
     ensures { result ≡ tone_curve choice pixels (cumulative counts.now) }
 {
-    let full = full_count(pixels as u64);
+    let full = full_count(pixels);
     let shares = shares_of(counts);
     match choice {
         // N × G(k) nearest to G(765) × H(s)
         Choice::Cube => {
             let cube = targets::table();
             let scaled = scaled_by(full, cube);
-            with_ends(nearest_entries(&scaled, cube[765], &shares))
+            let targets = NonFalling { values: &scaled };
+            let shares = NonFalling { values: &shares };
+            with_ends(targets.nearest_entries(cube[765], shares))
         }
         Choice::Equalised => with_ends(equalised_entries(full, &shares)),
     }

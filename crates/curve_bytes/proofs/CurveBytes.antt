@@ -1,15 +1,20 @@
 -- Laws of a curve's bytes and of the rule by which a curve is accepted.
 use mathlib.Core.Path.{◌≡◌, refl, sym, ap, ap₂, ◌∙◌}
 use mathlib.Core.Bool.{Bool, true, false, ◌&&◌, and-false}
-use mathlib.Core.List.{List, [], ◌∷◌}
+use mathlib.Core.List.{List, [], ◌∷◌, map}
 use Prim.Native.Nat.{ℕ, zero, suc, ◌+◌, ◌*◌, ◌/◌, ◌%◌, ◌≤◌, ◌<◌}
 use native.Mathlib.Nat.{le_of_suc-le-suc}
 use native.Mathlib.Omega.{arith}
 use borrow.Author.Tests.{eqb-true, leb-true, eq-eqb, le-leb}
 use lib.Dec.{leb, eqb}
 use lib.ListN.{length}
+use Rattle.std.proofs.Common.{w16, is_le, nat_cmp}
+use Rattle.std.specs.Int.{from_le_bytes}
+use Rattle.std.specs.List.{IsAllAdjacentAnswer}
+use Rattle.std.specs.Simd.{first_chunks}
+use Rattle.std.proofs.lemmas.List.Sorted.{non_decreasing_from_is_sorted}
 use Rattle.tables.specs.Table.{at}
-use Rattle.tables.proofs.Cases.{both, either}
+use Rattle.std.proofs.lemmas.Bool.{and_parts, false_from_ne_true}
 use Rattle.pixel.specs.Strip.{Bytes}
 use Rattle.curve.specs.Curve.{IsToneCurve}
 use Rattle.curve_bytes.specs.CurveBytes.{curve_bytes, curve_entries, none_exceeds, none_falls, keeps_curve_rule, TestIsTheRule, CurvesTravel}
@@ -47,17 +52,16 @@ length_entries [] = refl
 length_entries (low ∷ []) = refl
 length_entries (low ∷ high ∷ bytes) = omega (arith, length_entries bytes)
 
-pub entry_at : (bytes : List ℕ) (k : ℕ) → k < length bytes / 2
-    → at (curve_entries bytes) k ≡ at bytes (2 * k) + 256 * at bytes (2 * k + 1)
+-- the entry that `from_le_bytes` gives of them
+pub entries_of_pairs : (count : ℕ) (bytes : List ℕ) → count ≡ length bytes / 2
+    → map (from_le_bytes w16) (first_chunks 2 count bytes) ≡ curve_entries bytes
 unfolding curve_entries
-entry_at [] k h = absurd (omega arith)
-entry_at (low ∷ []) k h = absurd (omega arith)
-entry_at (low ∷ high ∷ bytes) zero h = refl
-entry_at (low ∷ high ∷ bytes) (suc k) h =
-    entry_at bytes k (omega arith)
-    ∙ ap₂ (λ (l u : ℕ). l + 256 * u)
-    (sym (ap (at (low ∷ high ∷ bytes)) (next_low k)))
-    (sym (ap (at (low ∷ high ∷ bytes)) (next_high k)))
+entries_of_pairs zero [] is = refl
+entries_of_pairs zero (low ∷ []) is = refl
+entries_of_pairs zero (low ∷ high ∷ bytes) is = absurd (omega arith)
+entries_of_pairs (suc count) [] is = absurd (omega arith)
+entries_of_pairs (suc count) (low ∷ []) is = absurd (omega arith)
+entries_of_pairs (suc count) (low ∷ high ∷ bytes) is = ap₂ ◌∷◌ (omega arith) (entries_of_pairs count bytes (omega arith))
 
 -- reading what was written gives the curve back
 pub read_back : (curve : List ℕ) → curve_entries (curve_bytes curve) ≡ curve
@@ -77,19 +81,6 @@ written_back (low ∷ high ∷ bytes) even small =
 -- the first n entries do not fall
 abbrev pub Rises : List ℕ → ℕ → Type 0
 Rises curve n = (s t : ℕ) → s ≤ t → t < n → at curve s ≤ at curve t
-
-pub rises_one : (curve : List ℕ) → Rises curve 1
-rises_one curve zero zero le less = omega arith
-rises_one curve zero (suc t) le less = absurd (omega arith)
-rises_one curve (suc s) t le less = absurd (omega arith)
-
-pub rises_more : (curve : List ℕ) (k : ℕ) → Rises curve (k + 1) → at curve k ≤ at curve (k + 1) → Rises curve (k + 1 + 1)
-rises_more curve k old step s t le less =
-    either t k (λ (l : t ≤ k). old s t le (omega arith))
-    (λ (l : k < t).
-    let last : t ≡ k + 1 = omega arith in
-    either s k (λ (m : s ≤ k). rw last (omega (arith, old s k m (omega arith), step)))
-    (λ (m : k < s). let same : s ≡ t = omega arith in rw same (omega arith)))
 
 -- entries that do not fall, none of them less than `before`
 abbrev pub RisesFrom : ℕ → List ℕ → Type 0
@@ -113,7 +104,7 @@ pub falls_sound : (before : ℕ) (entries : List ℕ) → none_falls before entr
 unfolding none_falls
 falls_sound before [] e = (λ k h. absurd (omega arith), λ s t le less. absurd (omega arith))
 falls_sound before (entry ∷ entries) e =
-    let (first, rest) = both (leb before entry) (none_falls entry entries) e in
+    let (first, rest) = and_parts (leb before entry) (none_falls entry entries) e in
     rises_cons before entry entries (leb-true before entry first) (falls_sound entry entries rest)
 
 pub falls_complete : (before : ℕ) (entries : List ℕ) → RisesFrom before entries → none_falls before entries ≡ true
@@ -126,13 +117,23 @@ falls_complete before (entry ∷ entries) (above, rises) =
           (λ k h. rises 0 (suc k) (omega arith) (omega arith), λ s t le less. rises (suc s) (suc t) (omega arith) (omega arith)),
     ) refl
 
+-- and what `is_sorted` answers
+pub order_tested : (curve : List ℕ) (sorted : Bool) → IsAllAdjacentAnswer (λ x y b. is_le (nat_cmp x y) ≡ b) curve sorted
+    → sorted ≡ none_falls 0 curve
+order_tested curve true answer =
+    let rises = non_decreasing_from_is_sorted curve true answer in
+    sym (falls_complete 0 curve (λ k h. omega arith, λ s t le less. rises s t 0 le less))
+order_tested curve false answer =
+    let (k, less, falls) = non_decreasing_from_is_sorted curve false answer in
+    sym (false_from_ne_true (none_falls 0 curve) (λ e. omega (arith, falls 0, (falls_sound 0 curve e).1 k (k + 1) (omega arith) less)))
+
 -- what the test of their range says
 exceeds_sound : (entries : List ℕ) → none_exceeds entries ≡ true → (k : ℕ) → k < length entries → at entries k ≤ 765
 unfolding none_exceeds
 exceeds_sound [] e k h = absurd (omega arith)
-exceeds_sound (entry ∷ entries) e zero h = leb-true entry 765 (both (leb entry 765) (none_exceeds entries) e).0
+exceeds_sound (entry ∷ entries) e zero h = leb-true entry 765 (and_parts (leb entry 765) (none_exceeds entries) e).0
 exceeds_sound (entry ∷ entries) e (suc k) h =
-    exceeds_sound entries (both (leb entry 765) (none_exceeds entries) e).1 k (omega arith)
+    exceeds_sound entries (and_parts (leb entry 765) (none_exceeds entries) e).1 k (omega arith)
 
 exceeds_complete : (entries : List ℕ) → ((k : ℕ) → k < length entries → at entries k ≤ 765) → none_exceeds entries ≡ true
 unfolding none_exceeds
@@ -149,9 +150,9 @@ risen_in_range curve size white e =
 pub curve_sound : (curve : List ℕ) → length curve ≡ 766 → keeps_curve_rule curve ≡ true → IsToneCurve curve
 unfolding keeps_curve_rule
 curve_sound curve size e =
-    let (first, rises) = both (eqb (at curve 0) 0 && eqb (at curve 765) 765 && none_exceeds curve) (none_falls 0 curve) e in
-    let (ends, range) = both (eqb (at curve 0) 0 && eqb (at curve 765) 765) (none_exceeds curve) first in
-    let (black, white) = both (eqb (at curve 0) 0) (eqb (at curve 765) 765) ends in
+    let (first, rises) = and_parts (eqb (at curve 0) 0 && eqb (at curve 765) 765 && none_exceeds curve) (none_falls 0 curve) e in
+    let (ends, range) = and_parts (eqb (at curve 0) 0 && eqb (at curve 765) 765) (none_exceeds curve) first in
+    let (black, white) = and_parts (eqb (at curve 0) 0) (eqb (at curve 765) 765) ends in
     record {
       size = size;
       black = eqb-true (at curve 0) 0 black;

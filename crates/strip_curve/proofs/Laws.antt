@@ -4,9 +4,13 @@ use mathlib.Core.Bool.{true}
 use mathlib.Core.List.{List, [], ◌∷◌, append-nil}
 use Prim.Native.Nat.{ℕ, ◌/◌, ◌≤◌, ◌<◌}
 use native.Mathlib.Omega.{arith}
-use borrow.Author.Tests.{not-false, ltb-false, eqb-false, le-ltb, eq-eqb, ne_eqb}
+use borrow.Author.Tests.{not-false, ltb-false, eqb-false, le-ltb, ne_eqb}
 use lib.ListN.{length, replicate, get_or-replicate}
+use Rattle.std.proofs.Common.{Result, Ok, Err}
+use Rattle.refusal.specs.Numbers.{refusal_number, number_in}
+use Rattle.refusal.specs.declared.Refusal.{Refusal}
 use Rattle.refusal.proofs.Laws.{none_applies, accepted_leaves}
+use Rattle.refusal.proofs.Numbers.{refusals_are_numbered}
 use Rattle.tables.specs.Table.{at, ◌among◌}
 use Rattle.pixel.specs.Strip.{is_whole, pixels_of, Bytes}
 use Rattle.pixel.specs.declared.Pixel.{Pixel}
@@ -21,29 +25,38 @@ use Rattle.curve.specs.declared.Choice.{Choice}
 use Rattle.curve.proofs.Histogram.{tally_is_histogram}
 use Rattle.curve.proofs.Numbers.{choices_are_numbered}
 use Rattle.curve.proofs.Strips.{curve_of_tally, curve_of_shape}
-use Rattle.strip_curve.specs.OneStrip.{strip_checks_of, strip_number, strip_curve}
-use Rattle.strip_curve.specs.declared.StripCurve.{StripCurve}
+use Rattle.strip_curve.specs.OneStrip.{StripCurve, strip_checks_of, strip_number, strip_answer, strip_curve}
 
--- What is handed back, from the number that the checks gave.
-module _ (choice : Choice) (strip : List ℕ) (n : ℕ) (is : n ≡ strip_number strip) where
-  pub made_refused : (n ≡ 0 → ⊥) → record { number = n; curve = replicate 766 0 } ≡ strip_curve choice strip
+-- What is handed back, from what the checks gave.
+module _ (choice : Choice) (strip : List ℕ) where
+  pub answer_refused : (refusal : Refusal) → refusal_number refusal ≡ strip_number strip → strip_answer (Err refusal) ≡ strip_curve choice strip
   unfolding strip_curve
-  made_refused refused = rw (ne_eqb (strip_number strip) 0 (λ z. refused (is ∙ z)), is)
+  answer_refused refusal is =
+      rw (ne_eqb (strip_number strip) 0 (λ z. omega (arith, is, z, refusals_are_numbered.above refusal)), is)
 
-  pub made_accepted : (curve : List ℕ) → n ≡ 0 → curve ≡ curve_of (choice_number choice) (strip ∷ [])
-      → record { number = n; curve = curve } ≡ strip_curve choice strip
+  pub answer_accepted : (curve : List ℕ) → 0 ≡ strip_number strip → curve ≡ curve_of (choice_number choice) (strip ∷ [])
+      → strip_answer (Ok curve) ≡ strip_curve choice strip
   unfolding strip_curve
-  made_accepted curve zero same = rw (eq-eqb (strip_number strip) 0 (sym is ∙ zero), is, same)
+  answer_accepted curve zero same = rw (← zero, same)
+
+-- the number of what was handed back
+answer_number : (made : Result (List ℕ) Refusal) → number_in made ≡ (strip_answer made).number
+answer_number (Ok curve) = refl
+answer_number (Err refusal) = refl
 
 -- For callers: what was handed back.
-module _ (choice : Choice) (strip : List ℕ) {made : StripCurve} (is : made ≡ strip_curve choice strip) where
-  pub made_number : made.number ≡ strip_number strip
+module _ (choice : Choice) (strip : List ℕ) (made : Result (List ℕ) Refusal) (is : strip_answer made ≡ strip_curve choice strip) where
+  pub made_number : number_in made ≡ strip_number strip
   unfolding strip_curve
-  made_number = ap (λ (m : StripCurve). m.number) is
+  made_number = answer_number made ∙ ap (λ (m : StripCurve). m.number) is
 
-  pub made_curve : strip_number strip ≡ 0 → made.curve ≡ curve_of (choice_number choice) (strip ∷ [])
+  pub made_curve : (curve : List ℕ) → made ≡ Ok curve → curve ≡ curve_of (choice_number choice) (strip ∷ [])
   unfolding strip_curve
-  made_curve zero = ap (λ (m : StripCurve). m.curve) is ∙ accepted_leaves (strip_number strip) _ _ zero
+  made_curve curve ok =
+      let zero : strip_number strip ≡ 0 = sym made_number ∙ ap number_in ok in
+      ap (λ (m : Result (List ℕ) Refusal). (strip_answer m).curve) (sym ok)
+      ∙ ap (λ (m : StripCurve). m.curve) is
+      ∙ accepted_leaves (strip_number strip) _ _ zero
 
 -- what an accepted strip has passed, by its length
 pub record StripAccepted (strip : ℕ) : Type 0 where

@@ -3,51 +3,38 @@
 
 ghost use Rattle.std.specs.Prelude.{◌≡◌};
 ghost use Rattle.refusal.specs.Refusal.{first_of};
-ghost use Rattle.strip_curve.specs.OneStrip.{strip_checks, strip_curve};
+ghost use Rattle.refusal.specs.Numbers.{number_in};
+ghost use Rattle.strip_curve.specs.OneStrip.{strip_checks, strip_answer, strip_curve};
 
 use curve::Choice;
+use refusal::Refusal;
 
-// What is handed back for a strip: 0 and its curve, or the refusal's number and zeros.
-#[derive(Clone, Copy)]
-pub struct StripCurve {
-    pub number: u32,
-    pub curve: [u16; 766],
-}
-
-// 2, 5, 3: 0, or the number of the first that applies.
-fn strip_refusal(whole: bool, empty: bool, over: bool) -> u32
-    ensures { result ≡ first_of (strip_checks whole empty over) }
+// 2, 5, 3: the first that applies. (Three facts, and not a length: of no length could it be seen that 5 stands before 3.)
+fn strip_refusal(whole: bool, empty: bool, over: bool) -> Result<(), Refusal>
+    ensures { number_in result ≡ first_of (strip_checks whole empty over) }
 {
     if !whole {
-        return refusal::NOT_WHOLE_PIXELS;
+        return Err(Refusal::NotWholePixels);
     }
     if empty {
-        return refusal::NO_PIXEL;
+        return Err(Refusal::NoPixel);
     }
     if over {
-        return refusal::TOO_MANY_PIXELS;
+        return Err(Refusal::TooManyPixels);
     }
-    0
+    Ok(())
 }
 
 // The tone curve of the strip by the choice. Refused: 2, 5, 3.
-pub fn curve_of_strip(choice: Choice, strip: &[u8]) -> StripCurve
-    ensures { result ≡ strip_curve choice strip.now }
+pub fn curve_of_strip(choice: Choice, strip: &[u8]) -> Result<[u16; 766], Refusal>
+    ensures { strip_answer result ≡ strip_curve choice strip.now }
 {
     let length = strip.len();
-    let number = strip_refusal(
+    strip_refusal(
         length % 3 == 0,
         length == 0,
         measuring::PIXEL_LIMIT < length / 3,
-    );
-    if number != 0 {
-        return StripCurve {
-            number,
-            curve: [0; 766],
-        };
-    }
+    )?;
     let counts = measuring::count_strip([0; 766], strip);
-    let pixels = (length / 3) as u32;
-    let curve = curve::tone_curve(choice, pixels, &counts);
-    StripCurve { number, curve }
+    Ok(curve::tone_curve(choice, (length / 3) as u32, &counts))
 }

@@ -1,8 +1,7 @@
 -- `curve::full_count` meets its contract.
-use mathlib.Core.Path.{refl}
 use Rattle.curve.specs.Curve.{full_count}
 use Rattle.curve.proofs.full_count.Goals as goal
 
 pub returns : goal.returns
 unfolding full_count
-returns c = refl
+returns c = c.from.ensures

@@ -1,24 +1,25 @@
 -- `curve::scaled_by` meets its contract.
-use mathlib.Core.Path.{ap}
-use Prim.Native.Nat.{ℕ, ◌*◌}
-use native.Mathlib.Nat.{le_trans, le_of_eq, mul-le-mul}
-use native.Mathlib.Omega.{arith}
-use Rattle.tables.proofs.Laws.{at_table}
-use Rattle.tables.proofs.Filling.{filled_more, filled_end}
+use Prim.Native.Nat.{ℕ, ◌*◌, ◌^◌, ◌<◌}
+use mathlib.Core.Path.{◌≡◌, ap, ◌∙◌}
+use borrow.Author.Rules.{rules}
+use Rattle.std.proofs.iter.Serving.{serving}
+use Rattle.tables.specs.Table.{at}
+use Rattle.tables.proofs.Laws.{is_tabulate, at_table}
+use Rattle.tables.proofs.Made.{made_by}
 use Rattle.targets.specs.Cube.{G}
-use Rattle.curve.proofs.Curve.{G-le}
+use Rattle.curve.proofs.Curve.{scaled_fits}
 use Rattle.curve.proofs.scaled_by.Goals as goal
 
-pub overflow_mul-scaled : goal.overflow_mul-scaled
-overflow_mul-scaled c =
-    let is = at_table G 766 c.args.targets c.requires.1 c.loop-k.k (omega arith) in
-    omega (arith, mul-le-mul c.requires.0 (le_trans (le_of_eq is) (G-le c.loop-k.k (omega arith))))
+pub from_fn-requires : goal.from_fn-requires
+from_fn-requires c =
+    let fits : (k : ℕ) → k < 766 → c.args.w * at c.args.targets k < 2 ^ 64 = scaled_fits c.args.w c.args.targets c.requires.0 c.requires.1 in
+    grind (serving, fits)
 
-pub loop-k-preserved : goal.loop-k-preserved
-loop-k-preserved c =
-    let here = c.loop-k in
-    filled_more _ 766 _ _ _ here.invariant c.loop-k-test.true
-    (ap (λ (x : ℕ). c.args.w * x) (at_table G 766 c.args.targets c.requires.1 here.k (omega arith)))
-
+-- One call is proved with c put out of sight: the search would enter the calls of all 766 places there.
 pub returns : goal.returns
-returns c = filled_end _ 766 _ c.loop-k.invariant c.loop-k-test.false
+returns c =
+    is_tabulate _ 766 _ (search rules)
+    (λ k h.
+    made_by _ (λ s scaled. scaled ≡ c.args.w * at c.args.targets s) _
+    (λ s scaled f called. let c : ℕ = 0 in search rules) 0 c.from_fn.result 766 c.from_fn.ensures.items k h
+    ∙ ap (λ (target : ℕ). c.args.w * target) (at_table G 766 c.args.targets c.requires.1 k h))

@@ -15,7 +15,7 @@ pub loop-s-preserved : goal.loop-s-preserved
 loop-s-preserved c =
     let counts = c.args.counts.now in
     let sum = c.loop-s.invariant.1 in
-    let next = sum_next counts c.loop-s.s c.loop-s.below c.wide.result sum c.wide.ensures.0 in (
+    let next = sum_next counts c.loop-s.s c.loop-s.below c.from.result sum c.from.ensures in (
       filled_more _ 766 _ _ _ c.loop-s.invariant.0 c.loop-s-test.true
           (c.share_count.ensures ∙ ap₂ share_count (sum ∙ previous_cumulative counts c.loop-s.s) next),
       rw add-one next,

@@ -5,6 +5,7 @@ use Rattle.tables.specs.Table.{at}
 use Rattle.tables.proofs.Laws.{at_table}
 use Rattle.targets.specs.Cube.{G}
 use Rattle.measuring.specs.Histogram.{cumulative}
+use Rattle.measuring.proofs.Cumulative.{cumulative_is_cumulative}
 use Rattle.curve.proofs.Curve.{full_le, G-le, shares_fit, aims_fit, scaled_non_decreasing, shares_non_decreasing, cube_curve, equalised_curve}
 use Rattle.curve.proofs.Histogram.{histogram_is_cumulative}
 use Rattle.curve.proofs.tone_curve.Goals as goal
@@ -13,20 +14,19 @@ pub scaled_by-scaled-requires : goal.scaled_by-scaled-requires
 scaled_by-scaled-requires c =
     (rw c.full_count-full.ensures (full_le c.requires.most), c.table-cube.ensures)
 
-pub nearest_entries-requires-clause-non_decreasing : goal.nearest_entries-requires-clause-non_decreasing
-nearest_entries-requires-clause-non_decreasing c =
-    let N = c.args.pixels in
-    let H = cumulative c.args.counts.now in
-    let full = c.full_count-full.result in
-    let shares = c.shares_of-shares.result in
-    let full_is = c.full_count-full.ensures in
-    let shares_are = c.shares_of-shares.ensures in (
-      scaled_non_decreasing N H full shares full_is shares_are c.scaled_by-scaled.result c.scaled_by-scaled.ensures,
-      shares_non_decreasing N H full shares full_is shares_are (histogram_is_cumulative c.requires),
-    )
+pub invariant_of-targets : goal.invariant_of-targets
+invariant_of-targets c = record {
+  never_falls = scaled_non_decreasing c.full_count-full.result _ c.scaled_by-scaled.ensures;
+}
 
-pub nearest_entries-requires-clause-aims_fit : goal.nearest_entries-requires-clause-aims_fit
-nearest_entries-requires-clause-aims_fit c =
+pub invariant_of-shares : goal.invariant_of-shares
+invariant_of-shares c = record {
+  never_falls = shares_non_decreasing (cumulative c.args.counts.now) _ c.shares_of-shares.ensures
+      (cumulative_is_cumulative c.args.counts.now);
+}
+
+pub nearest_entries-requires : goal.nearest_entries-requires
+nearest_entries-requires c =
     let histogram = c.requires in
     let full = c.full_count-full.result in
     let shares = c.shares_of-shares.result in

@@ -1,16 +1,29 @@
 -- `curve_bytes::keeps_curve_rule` meets its contract.
 use mathlib.Core.Path.{sym, ◌∙◌}
-use Rattle.tables.proofs.Cases.{cannot}
-use Rattle.curve_bytes.proofs.CurveBytes.{curve_sound, order_decides}
+use borrow.Author.Tests.{eqb-true, eqb-false}
+use Rattle.std.proofs.lemmas.Bool.{false_from_ne_true}
+use Rattle.curve_bytes.proofs.CurveBytes.{curve_sound, order_decides, order_tested}
 use borrow.Author.Rules.{rules}
 use Rattle.curve_bytes.proofs.keeps_curve_rule.Goals as goal
+use Rattle.curve_bytes.proofs.keeps_curve_rule.Goals.{then-curve-eq0, else-curve-eq0}
 
-pub returns-then-curve-ne0 : goal.returns-then-curve-ne0
-returns-then-curve-ne0 c = sym (cannot _ (λ e. c.if-curve-ne0.true (curve_sound _ (search rules) e).black))
+-- Both ends are right: the order decides.
+pub returns-then-curve-eq765 : goal.returns-then-curve-eq765
+returns-then-curve-eq765 c =
+    elim c.if-curve-eq0.branch [
+      | then-curve-eq0 w ↦
+          let white = eqb-true _ _ (sym w.value-is ∙ c.if-curve-eq765.true) in
+          order_tested _ _ c.is_sorted.ensures.cases ∙ order_decides _ (search rules) w.if-curve-eq0.true white
+      | else-curve-eq0 w ↦ absurd (w.if-curve-eq0.false (eqb-true _ _ (sym w.value-is ∙ c.if-curve-eq765.true)))
+    ]
 
-pub returns-then-curve-ne765 : goal.returns-then-curve-ne765
-returns-then-curve-ne765 c = sym (cannot _ (λ e. c.if-curve-ne765.true (curve_sound _ (search rules) e).white))
-
-pub returns : goal.returns
-returns c =
-    c.none_falls.ensures ∙ order_decides _ (search rules) c.if-curve-ne0.false c.if-curve-ne765.false
+-- One end is wrong.
+pub returns-else-curve-eq765 : goal.returns-else-curve-eq765
+returns-else-curve-eq765 c =
+    c.if-curve-eq765.false
+    ∙ sym (false_from_ne_true _ (λ e.
+    let curve = curve_sound _ (search rules) e in
+    elim c.if-curve-eq0.branch [
+      | then-curve-eq0 w ↦ eqb-false _ _ (sym w.value-is ∙ c.if-curve-eq765.false) curve.white
+      | else-curve-eq0 w ↦ w.if-curve-eq0.false curve.black
+    ]))

@@ -1,10 +1,10 @@
--- `curve::nearest_entries` meets its contract.
+-- `curve::NonFalling::nearest_entries` meets its contract.
 use Prim.Native.Nat.{◌≤◌}
 use native.Mathlib.Nat.{le_trans, le_of_eq}
 use native.Mathlib.Omega.{arith}
 use Rattle.tables.proofs.Filling.{filled_end}
 use Rattle.curve.proofs.Nearest.{nearest_le}
-use Rattle.curve.proofs.nearest_entries.Goals as goal
+use Rattle.curve.proofs.NonFalling.nearest_entries.Goals as goal
 
 pub overflow_cast-entries : goal.overflow_cast-entries
 overflow_cast-entries c =

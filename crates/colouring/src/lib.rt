@@ -4,61 +4,66 @@
 
 ghost use Rattle.std.specs.Prelude.{◌≡◌, ◌≤◌, replicate};
 ghost use Rattle.curve.specs.Curve.{EntriesInRange};
+ghost use Rattle.lines.specs.Line.{line_at};
+ghost use Rattle.pixel.specs.Move.{intensity};
 ghost use Rattle.settings.specs.Setting.{SettingInRange};
 ghost use Rattle.settings.specs.declared.Setting.TheVariants.{Mix};
 ghost use Rattle.colouring.specs.Colouring.{coloured_strip, coloured_under};
 ghost use Rattle.colouring.specs.Inner.{SameSize, along_lines};
 
 use lines::FixedLine;
-use pixel::Method;
+use pixel::{Method, Pixel};
 use settings::Setting;
 
-// Every pixel of the source, moved along the line of its intensity, at the same place of the destination.
-fn colour_by_lines(lines: [FixedLine; 766], source: &[u8], destination: &mut [u8])
-    requires { SameSize source.now destination.old }
-    ensures { destination.new ≡ along_lines lines source.now }
+// The line of a pixel's intensity. It is read field by field: read whole, it would be one number that is then split.
+fn line_for(lines: &[FixedLine; 766], p: Pixel) -> FixedLine
+    ensures { result ≡ line_at lines.now (intensity p) }
 {
-    // The bytes of whole pairs of pixels.
-    let pairs = source.len() - source.len() % 6;
-    let mut i: usize = 0;
-    while i < pairs {
+    let s = p.intensity();
+    FixedLine {
+        slope: lines[s].slope,
+        offset: lines[s].offset,
+    }
+}
+
+// Every pixel of the source, moved along the line of its intensity, at the same place of the destination.
+fn colour_by_lines(lines: &[FixedLine; 766], source: &[u8], destination: &mut [u8])
+    requires { SameSize source.now destination.old }
+    ensures { destination.new ≡ along_lines lines.now source.now }
+{
+    // Pixels are taken in pairs. A zip of chunks would leave the bytes written unknown to the proof.
+    for k in 0..source.len() / 6 {
+        let i = 6 * k;
         // Both are read before either is written. Writing the second also stores into the first one's place, and where source and
         // destination have the same offset in a page, a later read of the source there would wait for that store.
         let p = pixel::read_pixel(source, i);
         let q = pixel::read_pixel(source, i + 3);
-        // A line is read field by field: read whole, it would be one number that is then split.
-        let second = pixel::intensity_of(q.r, q.g, q.b);
-        let q_line = FixedLine {
-            slope: lines[second].slope,
-            offset: lines[second].offset,
-        };
-        writing::write_second(q_line, q, destination, i);
-        let first = pixel::intensity_of(p.r, p.g, p.b);
-        let p_line = FixedLine {
-            slope: lines[first].slope,
-            offset: lines[first].offset,
-        };
-        writing::write_pixel(p_line, p, destination, i);
-        i += 6;
+        let second = line_for(lines, q);
+        writing::write_second(second, q, destination, i);
+        let first = line_for(lines, p);
+        writing::write_pixel(first, p, destination, i);
     }
-    if i == source.len() {
+    if source.len() % 6 == 0 {
         return;
     }
-    let p = pixel::read_pixel(source, i);
-    let last = pixel::intensity_of(p.r, p.g, p.b);
-    writing::write_pixel(lines[last], p, destination, i);
+    let last = source.len() - 3;
+    let p = pixel::read_pixel(source, last);
+    writing::write_pixel(line_for(lines, p), p, destination, last);
 }
 
-// Every pixel of the source, moved to the curve's entry for its intensity, at the same place of the destination.
+// Every pixel of the source, moved to the curve's entry for its intensity, at the same place of the destination. Here and below
+// `EntriesInRange` and `SameSize` stay clauses: a type for either would be one that every caller makes of its own array or slices first.
+#[tactic(auto, using(crate::proofs::Lines::lines_colour))]
 pub fn colour_strip(curve: &[u16; 766], method: Method, source: &[u8], destination: &mut [u8])
     requires entries_in_range { EntriesInRange curve.now }
     requires same_size { SameSize source.now destination.old }
     ensures { destination.new ≡ coloured_strip method curve.now source.now }
 {
-    colour_by_lines(lines::lines_of(curve, method), source, destination);
+    colour_by_lines(&lines::lines_of(curve, method), source, destination);
 }
 
 // The full balance of every pixel of the source, mixed with the source by k / 256.
+#[tactic(auto, using(crate::proofs::Strips::mix_mixes, crate::proofs::Strips::amount_one_is_full_balance))]
 fn colour_mixed(k: u32, curve: &[u16; 766], method: Method, source: &[u8], destination: &mut [u8])
     requires k_bound { k ≤ 256 }
     requires entries_in_range { EntriesInRange curve.now }
@@ -85,6 +90,7 @@ fn colour_held(v: u32, method: Method, source: &[u8], destination: &mut [u8])
 }
 
 // Every pixel of the source, coloured under a setting of the dial, at the same place of the destination.
+#[tactic(auto, using(crate::proofs::Strips::off_copies, crate::proofs::Strips::held_strip))]
 pub fn colour_under(
     setting: Setting,
     curve: &[u16; 766],
@@ -98,7 +104,7 @@ pub fn colour_under(
     ensures { destination.new ≡ coloured_under setting method curve.now source.now }
 {
     match setting {
-        Setting::Off => settings::copy_bytes(source, destination),
+        Setting::Off => destination.copy_from_slice(source),
         Setting::Mix(k) => colour_mixed(k, curve, method, source, destination),
         Setting::Hold(v) => colour_held(v, method, source, destination),
     }

@@ -1,4 +1,5 @@
-// Writing a pixel along its line into a lent run of bytes.
+// Writing a pixel along its line into a lent run of bytes. (A run and a place in it, and no part of the run: a sample's store also reaches
+// bytes before its own.)
 #![tactic(auto)]
 
 ghost use Rattle.std.specs.Prelude.{[], ◌∷◌, ◌+◌, ◌/◌, ◌^◌, ◌<◌, length};
@@ -16,10 +17,7 @@ fn write_sample(parts: u32, destination: &mut [u8], i: usize)
     requires { i + 3 < length destination.old }
     ensures { WrittenFrom destination.old destination.new i (i + 3) (parts / 2 ^ 24 ∷ []) }
 {
-    destination[i] = (parts % 256) as u8;
-    destination[i + 1] = (parts / 256 % 256) as u8;
-    destination[i + 2] = (parts / 65536 % 256) as u8;
-    destination[i + 3] = (parts / lines::STEP) as u8;
+    destination[i..i + 4].copy_from_slice(&parts.to_le_bytes());
 }
 
 // Writes the second of the two pixels at byte i, moved along its line, from blue to red: each store also sets the three bytes before its
@@ -28,17 +26,17 @@ pub fn write_second(line: FixedLine, p: Pixel, destination: &mut [u8], i: usize)
     requires { i + 5 < length destination.old }
     ensures { WrittenFrom destination.old destination.new i (i + 3) (bytes_of (each_sample (sample_at line) p ∷ [])) }
 {
-    write_sample(lines::parts_at(line, p.b), destination, i + 2);
-    write_sample(lines::parts_at(line, p.g), destination, i + 1);
-    write_sample(lines::parts_at(line, p.r), destination, i);
+    write_sample(line.parts_at(p.b), destination, i + 2);
+    write_sample(line.parts_at(p.g), destination, i + 1);
+    write_sample(line.parts_at(p.r), destination, i);
 }
 
-// Writes the pixel at byte i, moved along its line.
+// Writes the pixel at byte i, moved along its line. Stores of four bytes, as above, would touch the pixel before it.
 pub fn write_pixel(line: FixedLine, p: Pixel, destination: &mut [u8], i: usize)
     requires { i + 2 < length destination.old }
     ensures { WrittenFrom destination.old destination.new i i (bytes_of (each_sample (sample_at line) p ∷ [])) }
 {
-    destination[i + 2] = lines::sample_at(line, p.b);
-    destination[i + 1] = lines::sample_at(line, p.g);
-    destination[i] = lines::sample_at(line, p.r);
+    destination[i + 2] = line.sample_at(p.b);
+    destination[i + 1] = line.sample_at(p.g);
+    destination[i] = line.sample_at(p.r);
 }

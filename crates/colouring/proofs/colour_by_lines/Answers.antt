@@ -1,32 +1,28 @@
 -- `colouring::colour_by_lines` meets its contract.
-use Prim.Native.Nat.{◌<◌}
+use mathlib.Core.Path.{◌≡◌, subst}
+use Prim.Native.Nat.{◌+◌, ◌*◌, ◌-◌}
 use native.Mathlib.Omega.{arith}
-use lib.ListN.{length}
-use Rattle.colouring.proofs.Loop.{last_pixel, coloured_end, coloured_one, coloured_two}
 use borrow.Author.Rules.{rules}
+use lib.ListN.{length}
+use Rattle.colouring.proofs.Loop.{ColouredTo, last_pixel, coloured_end, coloured_one, coloured_two}
 use Rattle.colouring.proofs.colour_by_lines.Goals as goal
 
-pub loop-i-preserved : goal.loop-i-preserved
-loop-i-preserved c =
-    let here = c.loop-i in (
-      coloured_two here.invariant.0 c.write_second.new.destination _ c.read_pixel-p.result c.read_pixel-q.result
-          c.intensity_of-first.result c.intensity_of-second.result (omega arith) c.read_pixel-p.ensures c.read_pixel-q.ensures
-          c.intensity_of-first.ensures.0 c.intensity_of-second.ensures.0 (search rules) c.write_second.ensures
-          c.write_pixel.ensures,
-      omega arith,
-      omega arith,
-      here.invariant.3,
-    )
+pub loop-k-preserved : goal.loop-k-preserved
+loop-k-preserved c =
+    coloured_two c.loop-k.invariant _ c.write_second.new.destination _ c.read_pixel-p.result c.read_pixel-q.result
+    c.line_for-first.result c.line_for-second.result (omega arith) (omega arith) c.read_pixel-p.ensures c.read_pixel-q.ensures
+    c.line_for-first.ensures c.line_for-second.ensures (search rules) c.write_second.ensures c.write_pixel.ensures
 
-pub returns-then-i-source : goal.returns-then-i-source
-returns-then-i-source c = coloured_end c.loop-i.invariant.0 c.if-i-source.true
+pub returns-then-source-eq0 : goal.returns-then-source-eq0
+returns-then-source-eq0 c = coloured_end c.loop-k.invariant (omega arith)
 
 pub returns : goal.returns
 returns c =
-    let here = c.loop-i in
-    let inside : here.i < length c.args.source.now =
-    omega (arith, here.invariant.0.within) in
+    let end : 6 * c.loop-k.k + 3 ≡ length c.args.source.now = last_pixel c.loop-k.invariant (omega arith) (omega arith) in
+    let here : 6 * c.loop-k.k ≡ length c.args.source.now - 3 = omega arith in
+    let there : ColouredTo c.args.lines.now c.args.source.now c.loop-k.destination (length c.args.source.now - 3) =
+    subst (ColouredTo c.args.lines.now c.args.source.now c.loop-k.destination) here c.loop-k.invariant in
     coloured_end
-    (coloured_one here.invariant.0 _ c.read_pixel-p-2.result c.intensity_of-last.result inside c.read_pixel-p-2.ensures
-    c.intensity_of-last.ensures.0 (search rules) c.write_pixel-2.ensures)
-    (last_pixel here.invariant.0 inside (omega arith))
+    (coloured_one there _ c.read_pixel-p-2.result c.line_for.result (omega arith) c.read_pixel-p-2.ensures c.line_for.ensures
+    (search rules) c.write_pixel-2.ensures)
+    (omega arith)

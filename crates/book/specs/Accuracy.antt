@@ -94,7 +94,7 @@ written t = written_by (colouring_in t)
 
 -- What holds at the step t, after the steps `before`.
 pub record StepAccurate (before : List Step) (t : Step) : Type 0 where
-  -- the premise of the call's contract is met
+  -- the call's shot came from opening, measuring and fixing
   pub premise : Reachable t.shot
   -- the tally, H, N and the curve that the shot keeps are the book's, and N is within the limit
   pub represents : Represents t.shot t.book

@@ -1,6 +1,5 @@
 -- How the book reads the dial of a colouring (document 02, wish 1): by the exact value of its float, among all stops or all intensities.
-use Rattle.std.specs.Prelude.{Bool, true, false, not, ◌&&◌, ◌||◌, cond, ℕ, zero, suc, ◌*◌, eqb, Float}
-use Rattle.std.proofs.Math.Option.{Option, none, some}
+use Rattle.std.specs.Prelude.{Bool, true, false, not, ◌&&◌, ◌||◌, cond, ℕ, zero, suc, ◌*◌, eqb, Float, Option, None, Some}
 use Rattle.std.specs.Float.{nan, inf, fin}
 use Rattle.std.specs.Float.Ieee.{up, down}
 use Rattle.settings.specs.declared.Setting.{Setting}
@@ -17,8 +16,8 @@ is_quotient (fin s m e) k n = (not s || eqb k 0) && eqb (m * up e * n) (k * down
 
 -- The k below `end` of which the float is k / n exactly, if there is one.
 abbrev pub exact_below : ℕ → ℕ → Float → Option ℕ
-exact_below n zero x = none
-exact_below n (suc k) x = cond (is_quotient x k n) (some k) (exact_below n k x)
+exact_below n zero x = None
+exact_below n (suc k) x = cond (is_quotient x k n) (Some k) (exact_below n k x)
 
 -- "an amount counts only if it is exactly k/256, k from 0 to 256"
 unfoldable pub stop : Float → Option ℕ
@@ -30,8 +29,8 @@ held_intensity x = exact_below 1 766 x
 
 -- Whether there is one.
 abbrev pub is_there : Option ℕ → Bool
-is_there none = false
-is_there (some k) = true
+is_there None = false
+is_there (Some k) = true
 
 -- Its amount, where the command has one, is a stop ("amount not a stop, 17").
 abbrev pub amount_is_stop : Dial → Bool
@@ -47,8 +46,8 @@ value_is_intensity (D.Hold x) = is_there (held_intensity x)
 
 -- The setting of a number, where there is one; off where there is none.
 abbrev pub if_there : (ℕ → Setting) → Option ℕ → Setting
-if_there to none = S.Off
-if_there to (some k) = to k
+if_there to None = S.Off
+if_there to (Some k) = to k
 
 -- The setting that the command is; of a refused one, off.
 abbrev pub setting_read : Dial → Setting

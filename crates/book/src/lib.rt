@@ -3,7 +3,6 @@
 #![tactic(auto)]
 
 ghost use Rattle.std.specs.Prelude.{◌≡◌};
-ghost use Rattle.shot.specs.Reachable.{Reachable};
 ghost use Rattle.book.specs.Book.{Call.opening, Call.measuring, Call.fixing, Call.colouring};
 ghost use Rattle.book.specs.Run.{step};
 
@@ -22,23 +21,20 @@ pub fn open(shot: Shot) -> Answer
 
 // Measures a strip, by the shot's own call.
 pub fn measure(shot: Shot, strip: &[u8]) -> Answer
-    requires { Reachable shot }
     ensures { result ≡ (step shot (measuring strip.now)).answer }
 {
     shot.measure(strip)
 }
 
-// Fixes the shot by a choice, by its own call.
+// Fixes the shot by a choice, which is a number as in the shot's own call.
 pub fn fix(shot: Shot, choice: u32) -> Answer
-    requires { Reachable shot }
     ensures { result ≡ (step shot (fixing choice)).answer }
 {
     shot.fix(choice)
 }
 
-// Colours the source into the destination, by the shot's own call.
+// Colours the source into the destination, by the shot's own call, with its arguments.
 pub fn colour(shot: Shot, method: u32, dial: Dial, source: &[u8], destination: &mut [u8]) -> Answer
-    requires { Reachable shot }
     ensures { step shot (colouring (record { method = method; dial = dial; source = source.now; destination = destination.old })) ≡ record { answer = result; bytes = destination.new } }
 {
     shot.colour(method, dial, source, destination)

@@ -1,4 +1,3 @@
 pub mod Passed
-pub mod Outcomes
 pub mod Agreement
 pub mod Accuracy

@@ -1,35 +1,37 @@
--- What a call leaves, from the number that its checks gave.
-use mathlib.Core.Path.{◌≡◌, ap, sym, ◌∙◌}
+-- What an accepted call hands back.
+use mathlib.Core.Path.{◌≡◌}
+use mathlib.Core.Bool.{false}
 use mathlib.Core.List.{List}
-use Prim.Native.Nat.{ℕ}
-use borrow.Author.Tests.{eq-eqb, ne_eqb}
-use Rattle.refusal.proofs.Laws.{accepted_leaves, refused_leaves}
-use Rattle.pixel.specs.Methods.{method_of}
-use Rattle.dial.specs.Dial.{decoded, setting_of}
+use Prim.Native.Nat.{ℕ, ◌+◌, ◌/◌}
+use borrow.Author.Tests.{le-ltb, eq-eqb, ne_eqb}
+use native.Mathlib.Omega.{arith}
+use lib.ListN.{length}
+use Rattle.dial.specs.Dial.{decoded, refusal_of, setting_of}
 use Rattle.colouring.specs.Colouring.{coloured_under}
-use Rattle.shot.specs.Shot.{answered, ColourRequest, Outcome, colouring_outcome, coloured}
+use Rattle.measuring.specs.Histogram.{pixel_limit}
+use Rattle.pixel.specs.Methods.{method_of}
+use Rattle.shot.specs.Shot.{with_strip, measured, with_curve, fixed_with, ColourRequest, coloured}
 use Rattle.shot.specs.declared.Shot.{Shot}
+use Rattle.shot.proofs.Passed.{MeasuringAccepted, FixingAccepted, ColouringAccepted}
 
--- The answer of a call that changes the shot where it is accepted.
-pub answer_refused : (n m : ℕ) (x y : Shot) → n ≡ m → (n ≡ 0 → ⊥) → record { shot = x; number = n } ≡ answered m y x
-answer_refused n m x y e refused = rw (ne_eqb m 0 (λ z. refused (e ∙ z)), e)
+-- the shot with the strip's pixels,
+pub measured_is : (x : Shot) (strip : List ℕ) → x.fixed ≡ false → MeasuringAccepted x strip
+    → measured x strip ≡ record { shot = with_strip x strip; number = 0 }
+unfolding measured
+measured_is x strip unfixed ok = simp (unfixed, ok.whole, le-ltb pixel_limit (x.pixels + length strip / 3) ok.room)
 
-pub answer_accepted : (n m : ℕ) (x y z : Shot) → n ≡ m → n ≡ 0 → z ≡ y → record { shot = z; number = n } ≡ answered m y x
-answer_accepted n m x y z e zero same = rw (eq-eqb m 0 (sym e ∙ zero), e, same)
+-- the shot with the curve,
+pub fixed_is : (x : Shot) (choice : ℕ) → x.fixed ≡ false → FixingAccepted x choice
+    → fixed_with x choice ≡ record { shot = with_curve x choice; number = 0 }
+unfolding fixed_with
+fixed_is x choice unfixed ok = simp (unfixed, ok.known, ne_eqb x.pixels 0 (λ e. omega (arith, ok.some)))
 
--- A colouring with its checks' number.
-module _ (x : Shot) (q : ColourRequest) (n : ℕ) (e : n ≡ (coloured x q).answer.number) where
-  -- leaves the shot with the number, and these bytes
-  abbrev left : List ℕ → Outcome
-  left bytes = record { answer = record { shot = x; number = n }; bytes = bytes }
-
-  coloured_is : (bytes : List ℕ) → bytes ≡ (colouring_outcome n x q).bytes → coloured x q ≡ left bytes
-  unfolding coloured
-  coloured_is bytes same = sym (ap left same ∙ ap (λ (number : ℕ). colouring_outcome number x q) e)
-
-  pub coloured_refused : (n ≡ 0 → ⊥) → coloured x q ≡ left q.destination
-  coloured_refused refused = coloured_is q.destination (sym (refused_leaves n _ _ refused))
-
-  pub coloured_accepted : (bytes : List ℕ) → n ≡ 0 → bytes ≡ coloured_under (setting_of (decoded q.dial)) (method_of q.method) x.curve q.source
-      → coloured x q ≡ left bytes
-  coloured_accepted bytes zero same = coloured_is bytes (same ∙ sym (accepted_leaves n _ _ zero))
+-- and the shot as it is, with the source's pixels coloured by its curve
+pub coloured_is : (x : Shot) (q : ColourRequest) → ColouringAccepted x q → refusal_of (decoded q.dial) ≡ 0
+    → coloured x q
+    ≡ record {
+      answer = record { shot = x; number = 0 };
+      bytes = coloured_under (setting_of (decoded q.dial)) (method_of q.method) x.curve q.source;
+    }
+unfolding coloured
+coloured_is x q ok set = simp (ok.is_fixed, ok.known, ok.whole, eq-eqb _ _ ok.same, set)

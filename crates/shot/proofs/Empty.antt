@@ -2,10 +2,9 @@
 use mathlib.Core.Path.{◌≡◌, refl, sym}
 use mathlib.Core.Bool.{true, false}
 use mathlib.Core.List.{List, []}
-use Prim.Native.Nat.{ℕ, ◌+◌, ◌/◌}
+use Prim.Native.Nat.{ℕ, ◌+◌}
 use native.Mathlib.Nat.{add-zero}
 use native.Mathlib.Omega.{arith}
-use borrow.Author.Tests.{le-ltb}
 use lib.ListN.{length}
 use Rattle.tables.specs.Table.{at}
 use Rattle.tables.proofs.Laws.{is_tabulate}
@@ -15,10 +14,10 @@ use Rattle.dial.specs.declared.Dial.{Dial}
 use Rattle.colouring.specs.Colouring.{coloured_under}
 use Rattle.shot.specs.Empty.{EmptyStripsChangeNothing}
 use Rattle.shot.specs.Reachable.{Reachable}
-use Rattle.measuring.specs.Histogram.{pixel_limit, with_pixels}
+use Rattle.measuring.specs.Histogram.{with_pixels}
 use Rattle.shot.specs.Shot.{with_strip, measured, coloured}
 use Rattle.shot.specs.declared.Shot.{Shot}
-use Rattle.shot.proofs.Answers.{answer_accepted}
+use Rattle.shot.proofs.Answers.{measured_is}
 use Rattle.shot.proofs.Holds.{reachable_holds}
 
 -- no pixels added leave the counts as they are
@@ -32,12 +31,9 @@ with_none x size =
     λ i. record { counts = no_pixels x.counts size i; pixels = add-zero x.pixels i; fixed = x.fixed; curve = x.curve }
 
 empty_measured : (x : Shot) → Reachable x → x.fixed ≡ false → measured x [] ≡ record { shot = x; number = 0 }
-unfolding measured
 empty_measured x r unfixed =
     let (ps, h) = reachable_holds r in
-    let accepted : 0 ≡ (measured x []).number =
-    sym (simp (unfixed, le-ltb pixel_limit (x.pixels + 0 / 3) (omega (arith, h.limit)))) in
-    sym (answer_accepted 0 _ x (with_strip x []) x accepted refl (sym (with_none x h.size)))
+    rw (measured_is x [] unfixed (record { whole = refl; room = omega (arith, h.limit) }), with_none x h.size)
 
 empty_coloured : (x : Shot) (method : ℕ) (dial : Dial) → x.fixed ≡ true → is_method method ≡ true → refusal_of (decoded dial) ≡ 0
     → coloured x (record { method = method; dial = dial; source = []; destination = [] })

@@ -1,4 +1,4 @@
--- What the premise of a shot's calls gives: to the calls' own proofs, and to callers for the next call.
+-- What follows from where a shot came from, for the calls' own proofs.
 use mathlib.Core.Path.{◌≡◌, sym, subst}
 use mathlib.Core.Bool.{true}
 use mathlib.Core.List.{List}
@@ -44,7 +44,7 @@ module _ {x : Shot} (r : Reachable x) where
   pub entries_in_range : x.fixed ≡ true → EntriesInRange x.curve
   entries_in_range fixed = ((reachable_holds r).1.curve fixed).range
 
--- For callers: a shot that a call handed back meets the next call's premise.
+-- What each call hands back came from the calls too.
 pub from_open : {y : Shot} → y ≡ opened → Reachable y
 from_open e = subst Reachable (sym e) by_opening
 

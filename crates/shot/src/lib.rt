@@ -2,84 +2,60 @@
 #![tactic(auto)]
 
 ghost use Rattle.std.specs.Prelude.{◌≡◌};
-ghost use Rattle.refusal.specs.Refusal.{first_of};
-ghost use Rattle.shot.specs.Reachable.{Reachable};
-ghost use Rattle.shot.specs.Shot.{opened, measure_checks, measured, fix_checks, fixed_with, colour_checks, coloured};
+ghost use Rattle.refusal.specs.Numbers.{number_in};
+ghost use Rattle.shot.specs.Inner.{handed_back};
+ghost use Rattle.shot.specs.Shot.{opened, measured, fixed_with, coloured};
 
+use curve::Choice;
 use dial::Dial;
+use pixel::Method;
+use refusal::Refusal;
+use std::marker::Model;
 
-// A shot's state: how many of its pixels have each intensity, how many they are, and, once it is fixed, its tone curve. Nothing
-// reads the curve of a shot that is not fixed. The counts stay after fixing.
+// A shot's state: how many of its pixels have each intensity, how many they are, and, once it is fixed, its tone curve. The counts
+// stay after fixing.
 #[derive(Clone, Copy)]
 pub struct Shot {
     counts: [u32; 766],
     pixels: u32,
-    fixed: bool,
-    curve: [u16; 766],
+    curve: Option<[u16; 766]>,
 }
 
-// What a call hands back: the next shot, and 0 or the refusal's number.
+// Every shot came from opening, measuring and fixing: no other code makes one, and the type carries the fact.
+impl Model for Shot {
+    ghost use Rattle.shot.specs.State.{State};
+
+    ghost Value = { State };
+
+    ghost use Rattle.shot.specs.Kept.{kept, fields_of, fields_of_kept};
+    ghost use Rattle.shot.specs.Reachable.{Reachable};
+
+    ghost view = { kept };
+
+    ghost invariant = { λ x. Reachable (kept x) };
+
+    ghost inverse = { fields_of };
+
+    ghost inverse_ok = { λ x _. fields_of_kept x };
+}
+
+// What a call hands back: the next shot, and 0 or the refusal's number. The customer named this form.
 #[derive(Clone, Copy)]
 pub struct Answer {
     pub shot: Shot,
     pub number: u32,
 }
 
-// Measure 1, 2, 3: 0, or the number of the first that applies.
-fn measure_refusal(fixed: bool, whole: bool, over: bool) -> u32
-    ensures { result ≡ first_of (measure_checks fixed whole over) }
-{
-    if fixed {
-        return refusal::ALREADY_FIXED;
+impl Answer {
+    // The next shot where a call is accepted, and the same one where it is refused.
+    fn new(shot: Shot, next: Result<Shot, Refusal>) -> Answer
+        ensures { result ≡ handed_back shot next }
+    {
+        Answer {
+            number: refusal::number_in(&next),
+            shot: next.unwrap_or(shot),
+        }
     }
-    if !whole {
-        return refusal::NOT_WHOLE_PIXELS;
-    }
-    if over {
-        return refusal::TOO_MANY_PIXELS;
-    }
-    0
-}
-
-// Fix 1, 4, 5: 0, or the number of the first that applies.
-fn fix_refusal(fixed: bool, known: bool, empty: bool) -> u32
-    ensures { result ≡ first_of (fix_checks fixed known empty) }
-{
-    if fixed {
-        return refusal::ALREADY_FIXED;
-    }
-    if !known {
-        return refusal::NO_SUCH_CHOICE;
-    }
-    if empty {
-        return refusal::NO_PIXEL;
-    }
-    0
-}
-
-// Colour 6, 7, 2, 8, then 17 or 18: 0, or the number of the first that applies.
-fn colour_refusal(fixed: bool, known: bool, whole: bool, same: bool, stop: bool, held: bool) -> u32
-    ensures { result ≡ first_of (colour_checks fixed known whole same stop held) }
-{
-    if !fixed {
-        return refusal::NOT_FIXED;
-    }
-    if !known {
-        return refusal::NO_SUCH_METHOD;
-    }
-    if !whole {
-        return refusal::NOT_WHOLE_PIXELS;
-    }
-    if !same {
-        return refusal::LENGTHS_DIFFER;
-    }
-    if !stop {
-        return refusal::NOT_A_STOP;
-    }
-    if !held {
-        return refusal::NOT_AN_INTENSITY;
-    }
-    0
 }
 
 impl Shot {
@@ -90,84 +66,101 @@ impl Shot {
         Shot {
             counts: [0; 766],
             pixels: 0,
-            fixed: false,
-            curve: [0; 766],
+            curve: None,
         }
     }
 
     // Adds the strip's pixels to the shot. Refused: 1, 2, 3.
     pub fn measure(self, strip: &[u8]) -> Answer
-        requires { Reachable self }
         ensures { result ≡ measured self strip.now }
     {
-        // the room left is compared, so that nothing can overflow
-        let room = measuring::PIXEL_LIMIT - (self.pixels as usize);
-        let number = measure_refusal(self.fixed, strip.len() % 3 == 0, room < strip.len() / 3);
-        if number != 0 {
-            return Answer { shot: self, number };
-        }
-        let start = self.counts;
-        let counts = measuring::count_strip(start, strip);
-        let more = (strip.len() / 3) as u32;
-        let pixels = self.pixels + more;
-        let curve = self.curve;
-        let shot = Shot {
-            counts,
-            pixels,
-            fixed: self.fixed,
-            curve,
-        };
-        Answer { shot, number }
+        Answer::new(self, self.with_strip(strip))
     }
 
-    // Makes the tone curve of all pixels measured. Refused: 1, 4, 5.
-    pub fn fix(self, choice: u32) -> Answer
-        requires { Reachable self }
-        ensures { result ≡ fixed_with self choice }
+    // The shot with the strip added.
+    #[tactic(auto, unfolding(crate::specs::Shot::measured))]
+    fn with_strip(&self, strip: &[u8]) -> Result<Shot, Refusal>
+        ensures { handed_back self.now result ≡ measured self.now strip.now }
     {
-        let number = fix_refusal(self.fixed, curve::is_choice(choice), self.pixels == 0);
-        if number != 0 {
-            return Answer { shot: self, number };
+        // the room left is compared, so that nothing can overflow (by `as`: no From makes a usize of a u32)
+        let room = measuring::PIXEL_LIMIT - (self.pixels as usize);
+        if self.curve.is_some() {
+            return Err(Refusal::AlreadyFixed);
         }
-        let counts = self.counts;
-        let pixels = self.pixels;
-        let curve = curve::tone_curve(curve::choice_of(choice), pixels, &counts);
-        let shot = Shot {
+        if strip.len() % 3 != 0 {
+            return Err(Refusal::NotWholePixels);
+        }
+        if room < strip.len() / 3 {
+            return Err(Refusal::TooManyPixels);
+        }
+        let counts = measuring::count_strip(self.counts, strip);
+        let pixels = self.pixels + (strip.len() / 3) as u32;
+        Ok(Shot {
             counts,
             pixels,
-            fixed: true,
-            curve,
-        };
-        Answer { shot, number }
+            curve: self.curve,
+        })
+    }
+
+    // Makes the tone curve of all pixels measured. Refused: 1, 4, 5. (The choice comes as a number, so that any other can be refused.)
+    pub fn fix(self, choice: u32) -> Answer
+        ensures { result ≡ fixed_with self choice }
+    {
+        Answer::new(self, self.with_curve(choice))
+    }
+
+    // The shot with its curve.
+    #[tactic(auto, unfolding(crate::specs::Shot::fixed_with))]
+    fn with_curve(&self, choice: u32) -> Result<Shot, Refusal>
+        ensures { handed_back self.now result ≡ fixed_with self.now choice }
+    {
+        if self.curve.is_some() {
+            return Err(Refusal::AlreadyFixed);
+        }
+        let choice = Choice::try_from(choice)?;
+        if self.pixels == 0 {
+            return Err(Refusal::NoPixel);
+        }
+        let curve = curve::tone_curve(choice, self.pixels, &self.counts);
+        Ok(Shot {
+            counts: self.counts,
+            pixels: self.pixels,
+            curve: Some(curve),
+        })
     }
 
     // Colours the source into the destination by the shot's curve, as the dial has it, and hands the shot back as it is. Refused: 6, 7, 2, 8,
-    // 17 or 18.
+    // 17 or 18. (The method comes as a number, so that any other can be refused; the arguments are those that the customer named.)
     pub fn colour(self, method: u32, dial: Dial, source: &[u8], destination: &mut [u8]) -> Answer
-        requires { Reachable self }
         ensures { coloured self (record { method = method; dial = dial; source = source.now; destination = destination.old }) ≡ record { answer = result; bytes = destination.new } }
     {
-        let decoded = dial::decode(dial);
-        let refused = dial::refusal_of(decoded);
-        let number = colour_refusal(
-            self.fixed,
-            pixel::is_method(method),
-            source.len() % 3 == 0,
-            destination.len() == source.len(),
-            refused != refusal::NOT_A_STOP,
-            refused != refusal::NOT_AN_INTENSITY,
-        );
-        if number == 0 {
-            let curve = self.curve;
-            let setting = dial::setting_of(decoded);
-            colouring::colour_under(
-                setting,
-                &curve,
-                pixel::method_of(method),
-                source,
-                destination,
-            );
+        let written = self.write(method, dial, source, destination);
+        Answer::new(self, written.map(|()| self))
+    }
+
+    // Writes the coloured source.
+    #[tactic(auto, unfolding(crate::specs::Shot::coloured))]
+    fn write(
+        &self,
+        method: u32,
+        dial: Dial,
+        source: &[u8],
+        destination: &mut [u8],
+    ) -> Result<(), Refusal>
+        ensures { coloured self.now (record { method = method; dial = dial; source = source.now; destination = destination.old }) ≡ record { answer = record { shot = self.now; number = number_in result }; bytes = destination.new } }
+    {
+        let Some(curve) = &self.curve else {
+            return Err(Refusal::NotFixed);
+        };
+        let method = Method::try_from(method)?;
+        if source.len() % 3 != 0 {
+            return Err(Refusal::NotWholePixels);
         }
-        Answer { shot: self, number }
+        if destination.len() != source.len() {
+            return Err(Refusal::LengthsDiffer);
+        }
+        let setting = dial::decode(dial)?;
+        colouring::colour_under(setting, curve, method, source, destination);
+        Ok(())
     }
 }

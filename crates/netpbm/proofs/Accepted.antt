@@ -7,32 +7,28 @@ use native.Mathlib.Omega.{arith}
 use borrow.Author.Tests.{eqb-false, ltb-false}
 use lib.Dec.{eqb, ltb}
 use lib.ListN.{length, take, length-take}
+use Rattle.std.proofs.Common.{Ok, Err, IfOk}
+use Rattle.refusal.specs.declared.Refusal.{Refusal}
+use Rattle.refusal.specs.declared.Refusal.TheVariants.{HeaderMalformed}
 use Rattle.tables.specs.Table.{at}
 use Rattle.scanning.specs.Scanning.{is_space}
-use Rattle.netpbm.specs.Header.{header_limit, area_limit, field_at, after_number, judged, has_letters, header_in, HeaderFits, AcceptedHeadersFit}
-use Rattle.netpbm.specs.declared.Field.{Field}
-use Rattle.netpbm.specs.declared.Field.TheVariants.{Number, NoNumber}
-use Rattle.netpbm.specs.declared.Reading.{Reading}
-use Rattle.netpbm.specs.declared.Reading.TheVariants.{Accepted, Malformed, OtherLargest, OtherSize}
+use Rattle.netpbm.specs.Header.{header_limit, area_limit, field_at, after_number, judged, has_letters, header_in, HeaderFits, AcceptedHeadersFit, Reading, Accepted, Malformed, OtherLargest, OtherSize, FieldReading}
 use Rattle.netpbm.proofs.Bytes.{space_within}
 
 -- a reading fits a file if its header, where it has one, does
 abbrev Fits : ℕ → Reading → Type 0
-Fits file (Accepted header) = HeaderFits header file
-Fits file Malformed = Unit {0}
-Fits file OtherLargest = Unit {0}
-Fits file OtherSize = Unit {0}
+Fits file reading = IfOk reading (λ header. HeaderFits header file)
 
-module _ (P : Reading → Type 0) (malformed : P Malformed) where
-  after_number_lem : (field : Field) (next : ℕ → ℕ → Reading) → ((n end : ℕ) → P (next n end)) → P (after_number field next)
-  after_number_lem (Number n end) next each = each n end
-  after_number_lem NoNumber next each = malformed
+module _ (P : Reading → Type 0) (refused : (refusal : Refusal) → P (Err refusal)) where
+  after_number_lem : (field : FieldReading) (next : ℕ → ℕ → Reading) → ((n end : ℕ) → P (next n end)) → P (after_number field next)
+  after_number_lem (Ok field) next each = each field.number field.end
+  after_number_lem (Err refusal) next each = refused refusal
 
   or_malformed : (test : Bool) (reading : Reading) → (test ≡ true → P reading) → P (cond test reading Malformed)
   or_malformed true reading each = each refl
-  or_malformed false reading each = malformed
+  or_malformed false reading each = refused HeaderMalformed
 
-  -- what holds of a malformed header, and of every answer for a header of the right form, holds of each
+  -- what holds of every refusal, and of every answer for a header of the right form, holds of each
   header_is : (bytes : List ℕ)
       → ((width height largest end : ℕ) → is_space (at bytes end) ≡ true → P (judged width height largest (end + 1)))
       → P (header_in bytes)
@@ -62,7 +58,7 @@ judged_fits file width height largest start starts short =
 pub accepted_headers_fit : AcceptedHeadersFit
 accepted_headers_fit file header reads =
     subst (Fits (length file)) reads
-    (header_is (Fits (length file)) tt (take header_limit file) (λ width height largest end space.
+    (header_is (Fits (length file)) (λ _. tt) (take header_limit file) (λ width height largest end space.
     let within = space_within (take header_limit file) end space in
     judged_fits (length file) width height largest (end + 1)
     (omega (arith, length-take header_limit file))

@@ -1,12 +1,17 @@
 -- No byte is both white space and a digit.
+use Rattle.std.proofs.Common.{Option, Some, None, MatchOption}
+use Rattle.std.proofs.Math.Nat.{le_refl}
+use Rattle.std.specs.Slice.{IsItemAt}
+use denote.Bor.{Bor}
 use mathlib.Core.Path.{◌≡◌, sym, ap, ◌∙◌}
-use mathlib.Core.Bool.{true, false, false≢true}
+use mathlib.Core.Bool.{Bool, true, false, false≢true}
 use mathlib.Core.List.{List}
 use Prim.Native.Nat.{ℕ, ◌≤◌, ◌<◌}
 use native.Mathlib.Omega.{arith}
 use lib.ListN.{length, get_or-eq_default}
 use Rattle.tables.specs.Table.{at}
-use Rattle.tables.proofs.Cases.{cannot, either}
+use Rattle.std.proofs.lemmas.Bool.{false_from_ne_true}
+use Rattle.tables.proofs.Cases.{either}
 use Rattle.text.specs.Decimal.{zero_code, is_digit}
 use Rattle.text.proofs.Decimal.{digit_range}
 use Rattle.scanning.specs.Scanning.{is_space}
@@ -18,7 +23,7 @@ digit_no_space b digit =
     not_space b (λ e. omega arith) (λ low high. omega arith)
 
 pub space_no_digit : (b : ℕ) → is_space b ≡ true → is_digit b ≡ false
-space_no_digit b space = cannot (is_digit b) (λ digit. false≢true (sym (digit_no_space b digit) ∙ space))
+space_no_digit b space = false_from_ne_true (is_digit b) (λ digit. false≢true (sym (digit_no_space b digit) ∙ space))
 
 -- past the end stands 0, which is no white space
 pub space_within : (bytes : List ℕ) (place : ℕ) → is_space (at bytes place) ≡ true → place < length bytes
@@ -26,3 +31,10 @@ space_within bytes place space =
     either (length bytes) place
     (λ past. absurd (false≢true (ap is_space (sym (get_or-eq_default bytes 0 past)) ∙ space)))
     (λ less. less)
+
+-- what a test of the byte at a place tells, if none stands there
+pub last_is : (bytes : List ℕ) (place : ℕ) (byte : Option (Bor ℕ)) (space : Bool) → IsItemAt bytes place byte
+    → MatchOption byte (space ≡ false) (λ x. space ≡ is_space x.now)
+    → space ≡ is_space (at bytes place)
+last_is bytes place None space got tested = tested ∙ ap is_space (got.4 (le_refl place) 0)
+last_is bytes place (Some x) space got tested = tested ∙ ap is_space (got.4 (le_refl place) 0)

@@ -9,12 +9,8 @@ use lib.Seq.{take-append_seam, drop-append_seam, drop-drop}
 use Rattle.tables.specs.Table.{at}
 use Rattle.text.specs.Decimal.{is_digit, value}
 use Rattle.scanning.specs.Scanning.{is_space, run_length}
-use Rattle.netpbm.specs.Header.{field_at, after_number}
+use Rattle.netpbm.specs.Header.{field_at, after_number, Reading, Malformed, FieldReading, Number}
 use Rattle.netpbm.specs.Grammar.{WhiteSpace, Numeral}
-use Rattle.netpbm.specs.declared.Field.{Field}
-use Rattle.netpbm.specs.declared.Field.TheVariants.{Number}
-use Rattle.netpbm.specs.declared.Reading.{Reading}
-use Rattle.netpbm.specs.declared.Reading.TheVariants.{Malformed}
 use Rattle.netpbm.proofs.Bytes.{digit_no_space, space_no_digit}
 use Rattle.scanning.proofs.Runs.{run_append, run_none, length_run, run_all}
 use Rattle.netpbm.proofs.Fields.{spaces_at, first_at, digits_at, end_at, numeral_at, field_number, field_either, length_numeral, numeral_digits}
@@ -134,9 +130,9 @@ module _ (bytes front : List ℕ) (begins : bytes ≡ front ++ drop (length fron
           split = field_split;
         };
         not_malformed = λ malformed. not_malformed (
-            ap (λ (field : Field). after_number field next) (field_number bytes place spaces some most)
+            ap (λ (field : FieldReading). after_number field next) (field_number bytes place spaces some most)
             ∙ ap (next (value (numeral_at bytes place))) end_is
             ∙ malformed
             );
       })
-      (λ none. absurd (not_malformed (ap (λ (field : Field). after_number field next) none)))
+      (λ none. absurd (not_malformed (ap (λ (field : FieldReading). after_number field next) none)))

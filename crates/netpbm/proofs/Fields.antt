@@ -1,5 +1,5 @@
 -- Laws of a header's fields, each white space and then a number.
-use mathlib.Core.Path.{◌≡◌, refl, ap, ap₂, ◌∙◌}
+use mathlib.Core.Path.{◌≡◌, refl, sym, ap, ap₂, ◌∙◌}
 use mathlib.Core.Bool.{true, ◌&&◌, cond}
 use mathlib.Core.List.{List}
 use Prim.Native.Nat.{ℕ, ◌+◌, ◌-◌, ◌^◌, ◌≤◌, ◌<◌}
@@ -10,13 +10,11 @@ use borrow.Table.Steps.{cases}
 use lib.Dec.{leb}
 use lib.ListN.{length, take, drop, length-drop}
 use Rattle.tables.specs.Table.{at}
-use Rattle.tables.proofs.Cases.{both}
+use Rattle.std.proofs.lemmas.Bool.{and_parts}
 use Rattle.text.specs.Decimal.{is_digit, Digits, value}
 use Rattle.text.proofs.Decimal.{value_below}
 use Rattle.scanning.specs.Scanning.{is_space, run_length}
-use Rattle.netpbm.specs.Header.{field_at, judged, has_letters, header_in}
-use Rattle.netpbm.specs.declared.Field.TheVariants.{Number, NoNumber}
-use Rattle.netpbm.specs.declared.Reading.TheVariants.{Malformed}
+use Rattle.netpbm.specs.Header.{field_at, judged, has_letters, header_in, Malformed, Number, NoNumber}
 use Rattle.scanning.proofs.Runs.{run_within, length_run, run_all}
 
 -- with the letters and three fields found, the byte after them decides
@@ -27,6 +25,14 @@ pub last_decides : (bytes : List ℕ) (width height largest end₁ end₂ end₃
     → header_in bytes ≡ cond (is_space (at bytes end₃)) (judged width height largest (end₃ + 1)) Malformed
 unfolding header_in
 last_decides bytes width height largest end₁ end₂ end₃ letters first second third = rw (letters, first, second, third) refl
+
+-- What a scan found from a place passes every test of a field: the place where the digits begin, and the one where they end.
+pub record Scanned (bytes : List ℕ) (place first end : ℕ) : Type 0 where
+  pub within : end ≤ length bytes
+  pub few : length (take (end - first) (drop first bytes)) ≤ 5
+  pub digits : Digits (take (end - first) (drop first bytes))
+  pub small : value (take (end - first) (drop first bytes)) < 2 ^ 32
+  pub field : field_at bytes place ≡ Number (value (take (end - first) (drop first bytes))) end
 
 -- The field that begins at a place.
 module _ (bytes : List ℕ) (place : ℕ) where
@@ -58,8 +64,8 @@ module _ (bytes : List ℕ) (place : ℕ) where
   field_either number none =
       cases (leb 1 spaces_at && leb 1 digits_at && leb digits_at 5)
       (λ e.
-      let (front, most) = both (leb 1 spaces_at && leb 1 digits_at) (leb digits_at 5) e in
-      let (spaces, some) = both (leb 1 spaces_at) (leb 1 digits_at) front in
+      let (front, most) = and_parts (leb 1 spaces_at && leb 1 digits_at) (leb digits_at 5) e in
+      let (spaces, some) = and_parts (leb 1 spaces_at) (leb 1 digits_at) front in
       number (leb-true 1 _ spaces) (leb-true 1 _ some) (leb-true _ 5 most))
       (λ e. none (rw e refl))
 
@@ -72,25 +78,27 @@ module _ (bytes : List ℕ) (place : ℕ) where
   pub numeral_digits : Digits numeral_at
   numeral_digits = run_all is_digit (drop first_at bytes)
 
-  -- a number of at most five digits fits 32 bits
-  pub small_number : digits_at ≤ 5 → value numeral_at < 2 ^ 32
-  small_number most =
-      omega (
-        arith,
-        value_below numeral_at numeral_digits,
-        pow-le-pow_right {n = 10} (omega arith) {i = length numeral_at} {j = 5} (omega (arith, length_numeral)),
-      )
-
-  -- a number ends within the bytes
-  pub end_within : 0 < digits_at → end_at ≤ length bytes
-  end_within some = omega (arith, run_within is_digit (drop first_at bytes), length-drop first_at bytes)
-
   -- What a scan finds: where the digits begin, and where they end.
-  module _ (first end : ℕ) (spaces : first ≡ first_at) (digits : end ≡ first + run_length is_digit (drop first bytes)) where
+  module _ (first end : ℕ) (is_first : first ≡ first_at) (is_end : end ≡ first + run_length is_digit (drop first bytes)) where
     pub scan_end : end ≡ end_at
-    scan_end = digits ∙ ap (λ (n : ℕ). n + run_length is_digit (drop n bytes)) spaces
+    scan_end = is_end ∙ ap (λ (n : ℕ). n + run_length is_digit (drop n bytes)) is_first
 
-    pub scan_numeral : take (end - first) (drop first bytes) ≡ numeral_at
-    scan_numeral =
-        let count : end - first ≡ digits_at = omega (arith, scan_end, spaces) in
-        ap₂ (λ (n p : ℕ). take n (drop p bytes)) count spaces
+    pub scanned : (first ≡ place → ⊥) → (end ≡ first → ⊥) → end - first ≤ 5 → Scanned bytes place first end
+    scanned spaced some most =
+        let count : end - first ≡ digits_at = omega (arith, scan_end) in
+        let numeral : take (end - first) (drop first bytes) ≡ numeral_at = ap₂ (λ (n p : ℕ). take n (drop p bytes)) count is_first in
+        record {
+          within = omega (arith, scan_end, run_within is_digit (drop first_at bytes), length-drop first_at bytes);
+          few = rw numeral (omega (arith, length_numeral));
+          digits = rw numeral numeral_digits;
+          small = rw numeral (
+              omega (
+                arith,
+                value_below numeral_at numeral_digits,
+                pow-le-pow_right {n = 10} (omega arith) {i = length numeral_at} {j = 5} (omega (arith, length_numeral)),
+              )
+              );
+          field =
+              field_number (omega (arith, scan_end)) (omega (arith, scan_end)) (omega (arith, scan_end))
+              ∙ ap₂ Number (ap value (sym numeral)) (sym scan_end);
+        }

@@ -13,10 +13,8 @@ use Rattle.text.specs.Decimal.{value}
 use Rattle.text.specs.Text.{ascii}
 use Rattle.text.proofs.Decimal.{decimal_means}
 use Rattle.scanning.specs.Scanning.{is_space}
-use Rattle.netpbm.specs.Header.{header_limit, area_limit, judged, has_letters, header_in, header_of}
+use Rattle.netpbm.specs.Header.{header_limit, area_limit, judged, has_letters, header_in, header_of, Reading, Accepted, Malformed}
 use Rattle.netpbm.specs.Grammar.{Parts, text_of, IsHeader, HasHeader, ReadingIsTheGrammar, WrittenIsRead}
-use Rattle.netpbm.specs.declared.Reading.{Reading}
-use Rattle.netpbm.specs.declared.Reading.TheVariants.{Accepted, Malformed}
 use Rattle.netpbm.proofs.Bytes.{space_within}
 use Rattle.netpbm.proofs.FieldTexts.{FieldText, read_to, one_space, white_stops, field_complete, field_sound}
 use Rattle.netpbm.proofs.Fields.{last_decides}

@@ -1,21 +1,25 @@
 -- The letters P6 at the start.
-use mathlib.Core.Path.{◌≡◌, ap₂}
-use mathlib.Core.Bool.{true}
-use mathlib.Core.List.{List, [], ◌∷◌}
-use Prim.Native.Nat.{ℕ, ◌≤◌}
-use native.Mathlib.Omega.{arith}
+use Rattle.std.proofs.Common.{◌≡◌, true, List, [], ◌∷◌, ℕ, ◌≤◌, drop, length, refl, ap₂, eqb, arith}
+use Rattle.std.specs.List.{starts_with}
+use Rattle.std.proofs.lemmas.Bool.Decides.{nat_tests}
 use borrow.Author.Tests.{eqb-true}
-use lib.Dec.{eqb}
-use lib.ListN.{length, drop, get_or-eq_default}
+use lib.ListN.{get_or-eq_default}
 use Rattle.tables.specs.Table.{at}
-use Rattle.tables.proofs.Cases.{both, either}
+use Rattle.std.proofs.lemmas.Bool.{and_parts}
+use Rattle.tables.proofs.Cases.{either}
 use Rattle.netpbm.specs.Header.{has_letters}
+
+-- what is looked for at the start is found where they stand
+pub letters_start : (bytes : List ℕ) → starts_with eqb bytes (80 ∷ 54 ∷ []) ≡ has_letters bytes
+letters_start [] = refl
+letters_start (a ∷ []) = grind (arith, nat_tests)
+letters_start (a ∷ b ∷ bytes) = grind (arith, nat_tests)
 
 -- they are two bytes
 letters_within : (bytes : List ℕ) → has_letters bytes ≡ true → 2 ≤ length bytes
 letters_within bytes h =
     either (length bytes) 1
-    (λ short. absurd (omega (arith, get_or-eq_default bytes 0 short, eqb-true (at bytes 1) 54 (both (eqb (at bytes 0) 80) (eqb (at bytes 1) 54) h).1)))
+    (λ short. absurd (omega (arith, get_or-eq_default bytes 0 short, eqb-true (at bytes 1) 54 (and_parts (eqb (at bytes 0) 80) (eqb (at bytes 1) 54) h).1)))
     (λ long. long)
 
 -- what follows them
@@ -23,4 +27,4 @@ pub letters_split : (bytes : List ℕ) → has_letters bytes ≡ true → bytes 
 letters_split [] h = absurd (omega (arith, letters_within [] h))
 letters_split (a ∷ []) h = absurd (omega (arith, letters_within (a ∷ []) h))
 letters_split (a ∷ b ∷ bytes) h =
-    ap₂ (λ (a b : ℕ). a ∷ b ∷ bytes) (eqb-true a 80 (both (eqb a 80) (eqb b 54) h).0) (eqb-true b 54 (both (eqb a 80) (eqb b 54) h).1)
+    ap₂ (λ (a b : ℕ). a ∷ b ∷ bytes) (eqb-true a 80 (and_parts (eqb a 80) (eqb b 54) h).0) (eqb-true b 54 (and_parts (eqb a 80) (eqb b 54) h).1)

@@ -1,9 +1,7 @@
 -- Headers, and what reading them answers: document 01's sentences and boundaries, in figures.
 use Rattle.std.specs.Prelude.{◌≡◌, List, [], ◌∷◌, ◌++◌, map, ℕ, replicate}
 use Rattle.text.specs.Text.{ascii}
-use Rattle.netpbm.specs.Header.{header_of}
-use Rattle.netpbm.specs.declared.Reading.{Reading}
-use Rattle.netpbm.specs.declared.Reading.TheVariants.{Accepted, Malformed, OtherLargest, OtherSize}
+use Rattle.netpbm.specs.Header.{Reading, Accepted, Malformed, OtherLargest, OtherSize, header_of}
 
 -- A file, and what reading its header answers.
 pub record Example : Type 0 where

@@ -4,8 +4,7 @@ use Rattle.tables.specs.Table.{at}
 use Rattle.text.specs.Decimal.{Digits, value}
 use Rattle.text.specs.Text.{ascii}
 use Rattle.scanning.specs.Scanning.{is_space}
-use Rattle.netpbm.specs.Header.{header_limit, area_limit, judged, header_of, header_text}
-use Rattle.netpbm.specs.declared.Reading.TheVariants.{Accepted, Malformed}
+use Rattle.netpbm.specs.Header.{header_limit, area_limit, Accepted, Malformed, judged, header_of, header_text}
 
 -- The parts of a header after its letters, in their order.
 pub record Parts : Type 0 where

@@ -1,15 +1,15 @@
 -- The header of a Netpbm P6 image (document 01, "Frames from a file"): what reading it answers, and how it is written.
-use Rattle.std.specs.Prelude.{◌≡◌, Bool, ◌&&◌, ◌||◌, not, cond, List, ◌++◌, ℕ, ◌+◌, ◌*◌, ◌≤◌, ◌<◌, leb, ltb, eqb, length, take, drop}
+use Rattle.std.specs.Prelude.{◌≡◌, Bool, ◌&&◌, ◌||◌, not, cond, List, ◌++◌, ℕ, ◌+◌, ◌*◌, ◌≤◌, ◌<◌, leb, ltb, eqb, length, take, drop, Result, Ok, Err}
 use Prim.Native.Char.{code}
+use Rattle.refusal.specs.Numbers.{number_in}
+use Rattle.refusal.specs.declared.Refusal.{Refusal}
+use Rattle.refusal.specs.declared.Refusal.TheVariants.{HeaderMalformed, OtherLargestValue, AreaOutOfRange}
 use Rattle.tables.specs.Table.{at}
 use Rattle.text.specs.Decimal.{is_digit, value, decimal}
 use Rattle.text.specs.Text.{ascii}
 use Rattle.scanning.specs.Scanning.{is_space, run_length}
 use Rattle.netpbm.specs.declared.Field.{Field}
-use Rattle.netpbm.specs.declared.Field.TheVariants.{Number, NoNumber}
 use Rattle.netpbm.specs.declared.Header.{Header}
-use Rattle.netpbm.specs.declared.Reading.{Reading}
-use Rattle.netpbm.specs.declared.Reading.TheVariants.{Accepted, Malformed, OtherLargest, OtherSize}
 
 -- "The header, its last white-space byte included, has at most 64 bytes."
 abbrev pub header_limit : ℕ
@@ -19,19 +19,48 @@ header_limit = 64
 abbrev pub area_limit : ℕ
 area_limit = 16384
 
+-- What reading a header answers: what it says, or why it is refused.
+abbrev pub Reading : Type 0
+Reading = Result Header Refusal
+
+abbrev pub Accepted : Header → Reading
+Accepted header = Ok header
+
+-- It is not of the right form, or ends early.
+abbrev pub Malformed : Reading
+Malformed = Err HeaderMalformed
+
+-- Its largest sample value is not 255.
+abbrev pub OtherLargest : Reading
+OtherLargest = Err OtherLargestValue
+
+-- Its width times height is 0 or above the limit.
+abbrev pub OtherSize : Reading
+OtherSize = Err AreaOutOfRange
+
+-- What reading a field answers: its number and the place after it, or that the header is malformed.
+abbrev pub FieldReading : Type 0
+FieldReading = Result Field Refusal
+
+abbrev pub Number : ℕ → ℕ → FieldReading
+Number n end = Ok (record { number = n; end = end })
+
+abbrev pub NoNumber : FieldReading
+NoNumber = Err HeaderMalformed
+
 -- The field that begins at a place: white space, then a number. "White space is one or more of" what `is_space` has. "A number has 1 to
 -- 5 decimal digits; leading zeros are allowed." The answer has the number, and the place after it.
-unfoldable pub field_at : List ℕ → ℕ → Field
+unfoldable pub field_at : List ℕ → ℕ → FieldReading
 field_at bytes place =
     let spaces = run_length is_space (drop place bytes) in
     let first = place + spaces in
     let digits = run_length is_digit (drop first bytes) in
     cond (leb 1 spaces && leb 1 digits && leb digits 5) (Number (value (take digits (drop first bytes))) (first + digits)) NoNumber
 
--- What follows a number; where there is none, the header is malformed.
-abbrev pub after_number : Field → (ℕ → ℕ → Reading) → Reading
-after_number (Number n end) next = next n end
-after_number NoNumber next = Malformed
+-- What follows a number; where there is none, that refusal.
+abbrev pub after_number : FieldReading → (ℕ → ℕ → Reading) → Reading
+after_number (Ok field) next = next field.number field.end
+after_number (Err refusal) next = Err refusal
 
 -- The answer for a header of the right form, by its three numbers and the place where the samples start. 13: the largest sample value is
 -- not 255. 14: width times height is 0 or above 16,384.
@@ -62,17 +91,12 @@ header_of file = header_in (take header_limit file)
 
 -- Document 01's number for each case: 0 for a header that is accepted, and 12, 13, 14. 12: the header is not as above or ends early.
 abbrev pub number_of : Reading → ℕ
-number_of (Accepted header) = 0
-number_of Malformed = 12
-number_of OtherLargest = 13
-number_of OtherSize = 14
+number_of reading = number_in reading
 
 -- And document 01's values for each case: the width, the height, and where the samples start. A refused header has none: all are 0.
 abbrev pub values_of : Reading → Header
-values_of (Accepted header) = header
-values_of Malformed = record { width = 0; height = 0; start = 0 }
-values_of OtherLargest = record { width = 0; height = 0; start = 0 }
-values_of OtherSize = record { width = 0; height = 0; start = 0 }
+values_of (Ok header) = header
+values_of (Err refusal) = record { width = 0; height = 0; start = 0 }
 
 -- "The written header is P6, LF, width, one space, height, LF, 255, LF, without leading zeros."
 unfoldable pub header_text : ℕ → ℕ → List ℕ

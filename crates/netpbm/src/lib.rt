@@ -1,12 +1,13 @@
 // The header of a Netpbm P6 image, read and written (document 01, "Frames from a file"). No other crate knows its form.
 #![tactic(auto)]
 
-ghost use Rattle.std.specs.Prelude.{◌≡◌, ◌+◌, ◌*◌, ◌≤◌, length};
-ghost use Rattle.tables.specs.Table.{at};
+ghost use Rattle.std.specs.Prelude.{◌≡◌, ◌*◌, ◌≤◌, length};
 ghost use Rattle.text.specs.Text.{Writes};
-ghost use Rattle.netpbm.specs.Header.{field_at, judged, has_letters, header_in, header_of, number_of, values_of, header_text};
+ghost use Rattle.netpbm.specs.Header.{field_at, judged, header_in, header_of, header_text};
 
+use refusal::Refusal;
 use scanning::Class;
+use text::Writer;
 
 // A header has at most so many bytes.
 pub const HEADER_LIMIT: usize = 64;
@@ -28,158 +29,94 @@ pub struct Header {
     pub start: usize,
 }
 
-// The answer to reading one.
-#[derive(Clone, Copy)]
-pub enum Reading {
-    Accepted(Header),
-    // It is not of the right form, or ends early: 12.
-    Malformed,
-    // Its largest sample value is not 255: 13.
-    OtherLargest,
-    // Its width times height is 0 or above the limit: 14.
-    OtherSize,
-}
-
-// A field of the header: its number and the place after it, or none where the field is malformed.
-#[derive(Clone, Copy)]
-enum Field {
-    Number(u32, usize),
-    NoNumber,
-}
-
-// The byte at a place. Past the end it is 0, which is no letter, no digit and no white space.
-fn byte_at(bytes: &[u8], place: usize) -> u8
-    ensures { result ≡ at bytes.now place }
-{
-    if bytes.len() <= place {
-        return 0;
+impl Header {
+    // Width times height. It may have more than 32 bits: 99999 times 99999 does.
+    pub fn area(self) -> u64
+        ensures { result ≡ self.width * self.height }
+    {
+        u64::from(self.width) * u64::from(self.height)
     }
-    bytes[place]
+}
+
+// A field of the header: its number, and the place after it.
+#[derive(Clone, Copy)]
+struct Field {
+    number: u32,
+    end: usize,
 }
 
 // The field that begins at `place`.
-fn read_field(bytes: &[u8], place: usize) -> Field
+fn read_field(bytes: &[u8], place: usize) -> Result<Field, Refusal>
     ensures { result ≡ field_at bytes.now place }
 {
     let first = scanning::run_end(Class::Space, bytes, place);
-    if first == place {
-        return Field::NoNumber;
-    }
     let end = scanning::run_end(Class::Digit, bytes, first);
-    if end == first {
-        return Field::NoNumber;
-    }
-    if DIGIT_LIMIT < end - first {
-        return Field::NoNumber;
+    if first == place || end == first || DIGIT_LIMIT < end - first {
+        return Err(Refusal::HeaderMalformed);
     }
     let number = text::read_decimal(&bytes[first..end]) as u32;
-    Field::Number(number, end)
-}
-
-// Width times height. It may have more than 32 bits: 99999 times 99999 does.
-pub fn area(width: u32, height: u32) -> u64
-    ensures { result ≡ width * height }
-{
-    (width as u64) * (height as u64)
+    Ok(Field { number, end })
 }
 
 // The answer for a header of the right form.
-fn judge(width: u32, height: u32, largest: u32, start: usize) -> Reading
-    ensures { result ≡ judged width height largest start }
+fn judge(header: Header, largest: u32) -> Result<Header, Refusal>
+    ensures { result ≡ judged header.width header.height largest header.start }
 {
     if largest != 255 {
-        return Reading::OtherLargest;
+        return Err(Refusal::OtherLargestValue);
     }
-    let pixels = area(width, height);
-    if pixels == 0 {
-        return Reading::OtherSize;
+    let pixels = header.area();
+    if pixels == 0 || AREA_LIMIT < pixels {
+        return Err(Refusal::AreaOutOfRange);
     }
-    if AREA_LIMIT < pixels {
-        return Reading::OtherSize;
-    }
-    Reading::Accepted(Header {
-        width,
-        height,
-        start,
-    })
-}
-
-// Whether the bytes begin with the letters P6.
-fn has_letters(bytes: &[u8]) -> bool
-    ensures { result ≡ has_letters bytes.now }
-{
-    if byte_at(bytes, 0) != b'P' {
-        return false;
-    }
-    byte_at(bytes, 1) == b'6'
+    Ok(header)
 }
 
 // Reads a header that must end within these bytes.
-fn read_within(bytes: &[u8]) -> Reading
+#[tactic(auto, using(crate::proofs::Letters::letters_start), unfolding(crate::specs::Header::header_in))]
+fn read_within(bytes: &[u8]) -> Result<Header, Refusal>
     ensures { result ≡ header_in bytes.now }
 {
-    if !has_letters(bytes) {
-        return Reading::Malformed;
+    if !bytes.starts_with(b"P6") {
+        return Err(Refusal::HeaderMalformed);
     }
-    let Field::Number(width, end) = read_field(bytes, 2) else {
-        return Reading::Malformed;
-    };
-    let Field::Number(height, end) = read_field(bytes, end) else {
-        return Reading::Malformed;
-    };
-    let Field::Number(largest, end) = read_field(bytes, end) else {
-        return Reading::Malformed;
-    };
-    if !scanning::is_space(byte_at(bytes, end)) {
-        return Reading::Malformed;
+    let width = read_field(bytes, 2)?;
+    let height = read_field(bytes, width.end)?;
+    let largest = read_field(bytes, height.end)?;
+    if !bytes
+        .get(largest.end)
+        .is_some_and(|b| scanning::is_space(*b))
+    {
+        return Err(Refusal::HeaderMalformed);
     }
-    judge(width, height, largest, end + 1)
+    let header = Header {
+        width: width.number,
+        height: height.number,
+        start: largest.end + 1,
+    };
+    judge(header, largest.number)
 }
 
 // Reads the header of a file.
-pub fn read_header(file: &[u8]) -> Reading
+pub fn read_header(file: &[u8]) -> Result<Header, Refusal>
     ensures { result ≡ header_of file.now }
 {
-    if file.len() < HEADER_LIMIT {
-        return read_within(file);
-    }
-    read_within(&file[..HEADER_LIMIT])
-}
-
-// Document 01's number for an answer.
-pub fn number_of(reading: Reading) -> u32
-    ensures { result ≡ number_of reading }
-{
-    match reading {
-        Reading::Accepted(_) => 0,
-        Reading::Malformed => refusal::HEADER_MALFORMED,
-        Reading::OtherLargest => refusal::OTHER_LARGEST_VALUE,
-        Reading::OtherSize => refusal::AREA_OUT_OF_RANGE,
-    }
-}
-
-// And its values: what the header says, or all 0 for one that is refused.
-pub fn values_of(reading: Reading) -> Header
-    ensures { result ≡ values_of reading }
-{
-    match reading {
-        Reading::Accepted(header) => header,
-        Reading::Malformed | Reading::OtherLargest | Reading::OtherSize => Header {
-            width: 0,
-            height: 0,
-            start: 0,
-        },
-    }
+    read_within(&file[..HEADER_LIMIT.min(file.len())])
 }
 
 // Writes a header at the start of the output, and hands back how many bytes it has.
+// (Not a `Header`, since where samples start is not written; and a part of the output in place of a length would leave unsaid what the rest
+// holds.)
+#[tactic(auto, using(crate::proofs::Written::header_size))]
 pub fn write_header(width: u32, height: u32, output: &mut [u8]) -> usize
     requires { length (header_text width height) ≤ length output.old }
     ensures { Writes 0 (header_text width height) output.old result output.new }
 {
-    let end = text::write_text(b"P6\n", output, 0);
-    let end = text::write_decimal(width as u64, output, end);
-    let end = text::write_text(b" ", output, end);
-    let end = text::write_decimal(height as u64, output, end);
-    text::write_text(b"\n255\n", output, end)
+    let mut writer = Writer::new(output);
+    writer.text(b"P6\n");
+    writer.number(u64::from(width));
+    writer.text(b" ");
+    writer.number(u64::from(height));
+    writer.text(b"\n255\n");
+    writer.end
 }

@@ -13,8 +13,7 @@ use Rattle.pixel.specs.Strip.{Bytes}
 use Rattle.curve.specs.Curve.{IsToneCurve}
 use Rattle.strip_curve.proofs.Laws.{StripAccepted, strip_shape}
 use Rattle.settings.specs.Setting.{full}
-use Rattle.dial.specs.Dial.{refusal_of, setting_of, full_balance}
-use Rattle.dial.specs.declared.Decoded.{Decoded}
+use Rattle.dial.specs.Dial.{Decoded, refusal_of, setting_of, full_balance}
 use Rattle.dial.proofs.Exact.{full_balance_lem}
 use Rattle.colouring.specs.Colouring.{coloured_under}
 use Rattle.colouring.specs.Written.{Written, pixels_written, coloured_pixels}
@@ -25,9 +24,8 @@ use Rattle.book.specs.Run.{trace, number, WellFormed}
 use Rattle.shot.specs.Shot.{opened, measured, fixed_with, ColourRequest, Outcome, coloured}
 use Rattle.book.proofs.Accuracy.{accuracy}
 use Rattle.shot.proofs.OneStrip.{measure_accepted, fix_accepted, colour_accepted}
-use Rattle.netpbm.specs.Header.{header_of, values_of, header_text}
+use Rattle.netpbm.specs.Header.{Accepted, header_of, values_of, header_text}
 use Rattle.netpbm.specs.declared.Header.{Header}
-use Rattle.netpbm.specs.declared.Reading.TheVariants.{Accepted}
 use Rattle.netpbm.proofs.Grammar.{written_is_read}
 use Rattle.still.specs.Agreement.{calls_of, bytes_left, FollowsShot, FilesFollowShots, pixels_of_file, FilesRoundThePaper, FilesAreAccurate, AnswersAreFiles}
 use Rattle.still.specs.Still.{file_choice, file_method, own_curve, balanced, picture, samples_due, IsAccepted, file_header, file_samples, answer}

@@ -2,51 +2,53 @@
 use mathlib.Core.Path.{◌≡◌, refl, sym, ap, ap₂, ◌∙◌}
 use mathlib.Core.Bool.{true, not}
 use mathlib.Core.List.{List, ◌∷◌}
-use Prim.Native.Nat.{ℕ, ◌+◌, ◌-◌, ◌≤◌, ◌<◌, zero-le}
+use Prim.Native.Nat.{ℕ, ◌+◌, ◌-◌, ◌≤◌, ◌<◌}
 use native.Mathlib.Nat.{zero-add}
 use native.Mathlib.Omega.{arith}
 use borrow.Author.Tests.{eq-eqb, ne_eqb, eqb-true, lt-ltb, le-ltb, ltb-false, not-false}
 use lib.Dec.{eqb}
-use lib.ListN.{length, length-append, length-drop}
+use lib.ListN.{length, take, drop, length-append, length-drop}
+use borrow.Author.Rules.{part_to_end}
+use Rattle.std.proofs.Common.{Err}
+use Rattle.refusal.specs.Numbers.{refusal_number}
+use Rattle.refusal.specs.declared.Refusal.{Refusal}
+use Rattle.refusal.proofs.Numbers.{refusals_are_numbered}
 use Rattle.refusal.specs.Refusal.{Check, ◌refuses◌, first_of, are_numbered}
 use Rattle.refusal.proofs.Laws.{none_applies, accepted_leaves, refused_leaves}
 use Rattle.tables.proofs.Cases.{either}
 use Rattle.text.specs.Text.{Writes}
 use Rattle.strip_curve.proofs.Laws.{StripAccepted}
-use Rattle.netpbm.specs.Header.{header_of, number_of, values_of, header_text, HeaderFits}
+use Rattle.netpbm.specs.Header.{Reading, Accepted, header_of, number_of, values_of, header_text, HeaderFits}
 use Rattle.netpbm.specs.declared.Header.{Header}
-use Rattle.netpbm.specs.declared.Reading.{Reading}
-use Rattle.netpbm.specs.declared.Reading.TheVariants.{Accepted, Malformed, OtherLargest, OtherSize}
 use Rattle.netpbm.proofs.Accepted.{accepted_headers_fit}
 use Rattle.netpbm.proofs.Readings.{accepted_is}
-use Rattle.still.specs.Inner.{ValuesFit}
 use Rattle.still.proofs.Samples.{whole_shot, balanced_length}
 use Rattle.still.specs.Still.{balanced, picture, refusal_line, samples_due, sample_checks, file_checks, file_number, IsAccepted, file_header, file_samples, answer, output_limit, outcome}
 
--- every header that was read keeps what the checks lean on
-pub file_values_fit : (file : List ℕ) → ValuesFit (file_header file) (length file)
-file_values_fit file = go (header_of file) refl
-  where
-    go : (reading : Reading) → header_of file ≡ reading → ValuesFit (values_of reading) (length file)
-    go (Accepted header) reads =
-        let fits = accepted_headers_fit file header reads in
-        record { starts = fits.starts; most = fits.most }
-    go Malformed reads = record { starts = zero-le; most = zero-le }
-    go OtherLargest reads = record { starts = zero-le; most = zero-le }
-    go OtherSize reads = record { starts = zero-le; most = zero-le }
-
--- the number of a header that is accepted is that of its samples
-pub number_of_samples : (reading : Reading) (size : ℕ) → number_of reading ≡ 0
-    → first_of (file_checks reading size) ≡ first_of (sample_checks (samples_due (values_of reading)) (size - (values_of reading).start))
-number_of_samples reading size e = rw (eq-eqb (number_of reading) 0 e) refl
-
-pub number_of_header : (reading : Reading) (size : ℕ) → (number_of reading ≡ 0 → ⊥) → first_of (file_checks reading size) ≡ number_of reading
-number_of_header reading size refused = rw (ne_eqb (number_of reading) 0 refused) refl
+-- the number of a file whose header is refused is the header's
+pub number_of_header : (refusal : Refusal) (size : ℕ) → first_of (file_checks (Err refusal) size) ≡ refusal_number refusal
+number_of_header refusal size = rw (ne_eqb (refusal_number refusal) 0 (λ e. omega (arith, refusals_are_numbered.above refusal, e))) refl
 
 -- a header's own check has a number where it applies
 header_numbered : (n : ℕ) (checks : List Check) → are_numbered checks ≡ true → are_numbered (not (eqb n 0) refuses n ∷ checks) ≡ true
 header_numbered n checks rest =
     either n 0 (λ l. simp (eq-eqb n 0 (omega arith), le-ltb 0 n (omega arith)) rest) (λ l. simp (lt-ltb 0 n l) rest)
+
+-- A file whose header was read.
+module _ (file : List ℕ) (header : Header) (reads : header_of file ≡ Accepted header) where
+  pub read_fits : HeaderFits header (length file)
+  read_fits = accepted_headers_fit file header reads
+
+  -- what is taken as the samples is the file's
+  pub read_samples : take (length file - header.start) (drop header.start file) ≡ file_samples file
+  read_samples = part_to_end file header.start ∙ ap (λ (reading : Reading). drop (values_of reading).start file) (sym reads)
+
+  -- and its number is that of these
+  pub read_number : file_number file ≡ first_of (sample_checks (samples_due header) (length (file_samples file)))
+  unfolding file_number
+  read_number =
+      let present : length (file_samples file) ≡ length file - header.start = rw reads (length-drop header.start file) in
+      rw (present, reads) refl
 
 -- where no check of a file applies, the header's does not, and exactly the samples due are present
 file_passed : (reading : Reading) (size : ℕ) → first_of (file_checks reading size) ≡ 0

@@ -9,21 +9,22 @@ use borrow.Author.Tests.{lt-ltb, le-ltb, ltb-false}
 use lib.Dec.{ltb}
 use lib.ListN.{length, take, length-drop}
 use lib.Seq.{take_all, take-take, length-take-le}
+use Rattle.std.proofs.Common.{Ok, Err}
+use Rattle.refusal.specs.Numbers.{refusal_number}
 use Rattle.refusal.specs.Refusal.{first_of}
+use Rattle.refusal.proofs.Numbers.{refusals_are_numbered}
 use Rattle.refusal.proofs.Laws.{either_leaves}
 use Rattle.tables.proofs.Cases.{either}
 use Rattle.text.specs.Text.{written_at}
 use Rattle.text.specs.Decimal.{value_after}
 use Rattle.text.proofs.Runs.{length_written}
 use Rattle.scanning.specs.Scanning.{run_length}
-use Rattle.netpbm.specs.Header.{header_limit, field_at, header_in, header_of, number_of}
-use Rattle.netpbm.specs.declared.Reading.{Reading}
-use Rattle.netpbm.specs.declared.Reading.TheVariants.{Accepted, Malformed, OtherLargest, OtherSize}
+use Rattle.netpbm.specs.Header.{header_limit, Reading, Accepted, field_at, header_in, header_of}
 use Rattle.netpbm.proofs.Accepted.{accepted_headers_fit}
 use Rattle.netpbm.proofs.Written.{written_headers_fit}
 use Rattle.still.specs.Limits.{input_limit, largest_file, OneByteMore, FirstBytesAreEnough, AnswersFit}
 use Rattle.still.specs.Still.{picture, refusal_line, samples_due, file_checks, file_number, IsAccepted, file_header, file_samples, answer, output_limit, Outcome, outcome}
-use Rattle.still.proofs.Answers.{accepted_fits, accepted_exact, accepted_answer, accepted_size, is_accepted, refused_answer}
+use Rattle.still.proofs.Answers.{accepted_fits, accepted_exact, accepted_answer, accepted_size, is_accepted, number_of_header, refused_answer}
 use Rattle.still.proofs.Sizes.{refusal_short, number_small}
 
 -- an accepted file is its header and its samples
@@ -51,27 +52,21 @@ one_byte_more = record {
 
 -- the number for a file with more bytes than are read
 abbrev overlong_number : Reading → ℕ
-overlong_number (Accepted header) = 16
-overlong_number Malformed = number_of Malformed
-overlong_number OtherLargest = number_of OtherLargest
-overlong_number OtherSize = number_of OtherSize
+overlong_number (Ok header) = 16
+overlong_number (Err refusal) = refusal_number refusal
 
 overlong_refuses : (reading : Reading) → overlong_number reading ≡ 0 → ⊥
-overlong_refuses (Accepted header) e = omega arith
-overlong_refuses Malformed e = omega arith
-overlong_refuses OtherLargest e = omega arith
-overlong_refuses OtherSize e = omega arith
+overlong_refuses (Ok header) e = omega arith
+overlong_refuses (Err refusal) e = omega (arith, refusals_are_numbered.above refusal, e)
 
 module _ (file : List ℕ) where
   -- however many those are
   overlong_number_lem : (reading : Reading) (size : ℕ) → header_of file ≡ reading → input_limit ≤ size → first_of (file_checks reading size) ≡ overlong_number reading
-  overlong_number_lem (Accepted header) size reads many =
+  overlong_number_lem (Ok header) size reads many =
       let fits = accepted_headers_fit file header reads in
       let more : samples_due header < size - header.start = omega (arith, fits.short, fits.most) in
       rw (le-ltb _ _ (le_of_lt more), lt-ltb _ _ more) refl
-  overlong_number_lem Malformed size reads many = refl
-  overlong_number_lem OtherLargest size reads many = refl
-  overlong_number_lem OtherSize size reads many = refl
+  overlong_number_lem (Err refusal) size reads many = number_of_header refusal size
 
   overlong_answer : (begin : List ℕ) → header_of begin ≡ header_of file → input_limit ≤ length begin → answer begin ≡ refusal_line (overlong_number (header_of file))
   unfolding file_number

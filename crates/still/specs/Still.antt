@@ -6,9 +6,8 @@ use Rattle.text.specs.Text.{ascii, written_at}
 use Rattle.pixel.specs.Methods.{method_of}
 use Rattle.curve.specs.Curve.{curve_of}
 use Rattle.colouring.specs.Colouring.{coloured_strip}
-use Rattle.netpbm.specs.Header.{area_limit, header_of, number_of, values_of, header_text, written_limit}
+use Rattle.netpbm.specs.Header.{area_limit, Reading, header_of, number_of, values_of, header_text, written_limit}
 use Rattle.netpbm.specs.declared.Header.{Header}
-use Rattle.netpbm.specs.declared.Reading.{Reading}
 
 -- "fixes the cube curve from it": choice 1.
 abbrev pub file_choice : ℕ

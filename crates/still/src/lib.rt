@@ -1,25 +1,28 @@
 // The whole job of one still picture (document 01, "Frames from a file"): from the bytes of a file to the bytes to write.
 #![tactic(auto)]
 
-ghost use Rattle.std.specs.Prelude.{◌≡◌, ◌≤◌, length, replicate};
+ghost use Rattle.std.specs.Prelude.{◌≡◌, ◌≤◌, length, replicate, IfOk};
+ghost use Rattle.refusal.specs.Numbers.{refusal_number, number_in};
 ghost use Rattle.refusal.specs.Refusal.{first_of};
 ghost use Rattle.text.specs.Text.{Writes};
-ghost use Rattle.netpbm.specs.Header.{values_of};
-ghost use Rattle.still.specs.Inner.{OwnCurve, PictureFits, ValuesFit};
+ghost use Rattle.curve.specs.Curve.{EntriesInRange};
+ghost use Rattle.still.specs.Inner.{OwnCurve, PictureFits, PictureOf};
 ghost use Rattle.still.specs.Limits.{input_limit};
-ghost use Rattle.still.specs.Still.{picture, refusal_line, sample_checks, file_checks, output_limit, outcome};
+ghost use Rattle.still.specs.Still.{picture, refusal_line, sample_checks, file_number, output_limit, outcome};
 
 use curve::Choice;
-use netpbm::Reading;
+use netpbm::Header;
 use pixel::Method;
+use refusal::Refusal;
+use text::Writer;
 
-// One byte more than the largest accepted file: so many bytes of a file are enough.
+// One byte more than the largest accepted file: so many bytes of a file are enough. (An area goes by `as`: no From makes a usize of it.)
 const INPUT_LIMIT: usize = netpbm::HEADER_LIMIT + 3 * netpbm::AREA_LIMIT as usize + 1;
 
 // An output of so many bytes has room for every answer.
 const OUTPUT_LIMIT: usize = netpbm::WRITTEN_LIMIT + 3 * netpbm::AREA_LIMIT as usize;
 
-// Room for the bytes of a file that are read.
+// Room for the bytes of a file that are read. (One function for both buffers, of any length, would promise neither length.)
 pub fn input_buffer() -> [u8; INPUT_LIMIT]
     ensures { result ≡ replicate input_limit 0 }
 {
@@ -33,78 +36,86 @@ pub fn output_buffer() -> [u8; OUTPUT_LIMIT]
     [0; OUTPUT_LIMIT]
 }
 
-// Writes a refusal at the start of the output, and hands back how many bytes it has.
-fn write_refusal(number: u32, output: &mut [u8]) -> usize
-    requires { length (refusal_line number) ≤ length output.old }
-    ensures { Writes 0 (refusal_line number) output.old result output.new }
-{
-    let end = text::write_text(b"refused ", output, 0);
-    let end = text::write_decimal(number as u64, output, end);
-    text::write_text(b"\n", output, end)
+// A picture that a file holds: what its header says, its samples, and the curve that is their own.
+#[derive(Clone, Copy)]
+struct Picture<'a> {
+    header: Header,
+    samples: &'a [u8],
+    curve: [u16; 766],
 }
 
-// File 15, 16, by how many samples are due and how many bytes are present: 0, or the number of the first that applies.
-fn samples_number(due: usize, present: usize) -> u32
-    ensures { result ≡ first_of (sample_checks due present) }
+// File 15, 16, by how many samples are due and how many bytes are present.
+fn check_samples(due: usize, present: usize) -> Result<(), Refusal>
+    ensures { number_in result ≡ first_of (sample_checks due present) }
 {
     if present < due {
-        return refusal::TOO_FEW_SAMPLES;
+        return Err(Refusal::TooFewSamples);
     }
     if due < present {
-        return refusal::BYTES_AFTER_SAMPLES;
+        return Err(Refusal::BytesAfterSamples);
     }
-    0
+    Ok(())
 }
 
-// File 12, 13, 14, 15, 16, by what reading the header answers and the file's size: 0, or the number of the first that applies.
-fn file_number(reading: Reading, size: usize) -> u32
-    requires { ValuesFit (values_of reading) size }
-    ensures { result ≡ first_of (file_checks reading size) }
+// Reads a file: its picture, or the first of file 12, 13, 14, 15, 16 that applies.
+fn read_picture(file: &[u8]) -> Result<Picture<'_>, Refusal>
+    ensures number { number_in result ≡ file_number file.now }
+    ensures parts { IfOk result (λ image. PictureOf file.now image) }
 {
-    let header = netpbm::values_of(reading);
-    let number = netpbm::number_of(reading);
-    if number != 0 {
-        return number;
-    }
-    let due = 3 * netpbm::area(header.width, header.height) as usize;
-    samples_number(due, size - header.start)
+    let header = netpbm::read_header(file)?;
+    let samples = &file[header.start..];
+    check_samples(3 * header.area() as usize, samples.len())?;
+    let curve = strip_curve::curve_of_strip(Choice::Cube, samples)?;
+    Ok(Picture {
+        header,
+        samples,
+        curve,
+    })
+}
+
+// Writes a refusal at the start of the output, and hands back how many bytes it has.
+#[tactic(auto, using(crate::proofs::Sizes::refusal_size))]
+fn write_refusal(refusal: Refusal, output: &mut [u8]) -> usize
+    requires { length (refusal_line (refusal_number refusal)) ≤ length output.old }
+    ensures { Writes 0 (refusal_line (refusal_number refusal)) output.old result output.new }
+{
+    let number = u32::from(refusal);
+    let mut writer = Writer::new(output);
+    writer.text(b"refused ");
+    writer.number(u64::from(number));
+    writer.text(b"\n");
+    writer.end
 }
 
 // Writes a picture at the start of the output: a header, and the samples coloured by their own curve and method 2. Hands back how many
 // bytes it has.
-fn write_picture(
-    width: u32,
-    height: u32,
-    curve: &[u16; 766],
-    samples: &[u8],
-    output: &mut [u8],
-) -> usize
-    requires picture_fits { PictureFits width height (length samples.now) (length output.old) }
-    requires own_curve { OwnCurve samples.now curve.now }
-    ensures { Writes 0 (picture width height samples.now) output.old result output.new }
+fn write_picture(image: &Picture, output: &mut [u8]) -> usize
+    requires picture_fits { PictureFits image.now.header.width image.now.header.height (length image.now.samples.now) (length output.old) }
+    requires own_curve { OwnCurve image.now.samples.now image.now.curve }
+    requires entries_in_range { EntriesInRange image.now.curve }
+    ensures { Writes 0 (picture image.now.header.width image.now.header.height image.now.samples.now) output.old result output.new }
 {
-    let first = netpbm::write_header(width, height, output);
-    let end = first + samples.len();
-    colouring::colour_strip(curve, Method::YangLee, samples, &mut output[first..end]);
+    let first = netpbm::write_header(image.header.width, image.header.height, output);
+    let end = first + image.samples.len();
+    colouring::colour_strip(
+        &image.curve,
+        Method::YangLee,
+        image.samples,
+        &mut output[first..end],
+    );
     end
 }
 
 // The whole job: the answer to a file, at the start of the output. Hands back how many of its bytes are to be written; an output shorter
-// than `OUTPUT_LIMIT` stays as it was, and none is.
+// than `OUTPUT_LIMIT` stays as it was, and none is. (A part of the output in place of a length would leave unsaid what the rest holds.)
 pub fn balance_file(file: &[u8], output: &mut [u8]) -> usize
     ensures { outcome file.now output.old ≡ record { size = result; output = output.new } }
 {
     if output.len() < OUTPUT_LIMIT {
         return 0;
     }
-    let reading = netpbm::read_header(file);
-    let number = file_number(reading, file.len());
-    if number != 0 {
-        return write_refusal(number, output);
+    match read_picture(file) {
+        Ok(image) => write_picture(&image, output),
+        Err(refusal) => write_refusal(refusal, output),
     }
-    let header = netpbm::values_of(reading);
-    let start = header.start;
-    let samples = &file[start..];
-    let made = strip_curve::curve_of_strip(Choice::Cube, samples);
-    write_picture(header.width, header.height, &made.curve, samples, output)
 }

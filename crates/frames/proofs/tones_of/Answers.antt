@@ -1,7 +1,7 @@
 -- `frames::tones_of` meets its contract.
-use Rattle.std.proofs.Common.{arith}
-use Rattle.frames.proofs.Counting.{counted_all}
+use Rattle.frames.proofs.Counting.{tones_counted}
 use Rattle.frames.proofs.tones_of.Goals as goal
 
 pub returns : goal.returns
-returns c = counted_all c.loop-i.invariant (omega arith)
+returns c =
+    tones_counted c.args.strip.now _ c.as_chunks.ensures.front _ _ _ c.count_of.ensures c.count_of-2.ensures c.before_white.ensures

@@ -1,7 +1,7 @@
 -- `still::write_picture` meets its contract.
 use Rattle.still.specs.Inner.{PictureFits}
 use Rattle.netpbm.specs.Header.{header_text}
-use mathlib.Core.Path.{◌≡◌, sym, ap, subst, ◌∙◌}
+use mathlib.Core.Path.{◌≡◌, ap, subst, ◌∙◌}
 use mathlib.Core.List.{List}
 use Prim.Native.Nat.{ℕ, ◌+◌, ◌-◌, ◌≤◌, zero-le}
 use native.Mathlib.Omega.{arith}
@@ -10,12 +10,9 @@ use lib.ListN.{length}
 use Rattle.text.specs.Text.{Writes}
 use Rattle.text.proofs.Runs.{writes_room, writes_more, part_writes}
 use Rattle.pixel.specs.Methods.{method_of}
-use Rattle.pixel.specs.Strip.{Bytes}
-use Rattle.curve.specs.Curve.{EntriesInRange}
-use Rattle.strip_curve.proofs.Laws.{strip_shape}
 use Rattle.colouring.specs.Colouring.{coloured_strip}
 use Rattle.netpbm.proofs.Written.{written_headers_fit}
-use Rattle.still.specs.Still.{file_choice, file_method, balanced, picture}
+use Rattle.still.specs.Still.{file_method, balanced, picture}
 use Rattle.still.proofs.Samples.{whole_shot, balanced_length}
 use Rattle.still.proofs.write_picture.Goals as goal
 
@@ -28,24 +25,16 @@ room {width} {height} fits wrote =
 pub write_header-first-requires : goal.write_header-first-requires
 write_header-first-requires c =
     let fits = c.requires.picture_fits in
-    omega (arith, written_headers_fit c.args.width c.args.height fits.some fits.most, fits.room)
+    omega (arith, written_headers_fit c.args.image.now.header.width c.args.image.now.header.height fits.some fits.most, fits.room)
 
 pub slice_bounds-colour_strip-end : goal.slice_bounds-colour_strip-end
 slice_bounds-colour_strip-end c = room c.requires.picture_fits c.write_header-first.ensures
-
-pub colour_strip-requires-clause-entries_in_range : goal.colour_strip-requires-clause-entries_in_range
-colour_strip-requires-clause-entries_in_range c =
-    let fits = c.requires.picture_fits in
-    let samples = c.args.samples.now in
-    let bytes : Bytes samples = λ i. omega (arith, c.type_inv.samples i) in
-    subst EntriesInRange (sym c.requires.own_curve)
-    (strip_shape samples (whole_shot _ _ fits.exact fits.some fits.most) bytes file_choice).range
 
 pub returns : goal.returns
 unfolding picture balanced
 returns c =
     let fits = c.requires.picture_fits in
-    let samples = c.args.samples.now in
+    let samples = c.args.image.now.samples.now in
     let first = c.write_header-first.result in
     let before = c.write_header-first.new.output in
     let piece = c.colour_strip.new.destination in

@@ -1,1 +1,2 @@
 pub mod Patterns
+pub mod Commands

@@ -5,10 +5,8 @@ use Rattle.text.specs.Text.{ascii}
 use Rattle.words.specs.declared.Fault.TheVariants.{NoSuchCall, TooFewWords, TooManyWords, NotANumber, NoSuchShot, NotPairs, NotAPixel, NoSuchDial, NotAFloat}
 use Rattle.words.specs.declared.Word.{Word}
 use Rattle.dial.specs.declared.Dial.TheVariants.{Off, Mix, Hold}
-use Rattle.script.specs.Script.{line_of}
+use Rattle.script.specs.Script.{ScriptLine, Blank, Calls, NoCall, line_of}
 use Rattle.script.specs.declared.Command.TheVariants.{Open, Measure, Fix, Colour, Move}
-use Rattle.script.specs.declared.ScriptLine.{ScriptLine}
-use Rattle.script.specs.declared.ScriptLine.TheVariants.{Blank, Calls, NoCall}
 
 -- A line, and what it is read as.
 pub record Example : Type 0 where

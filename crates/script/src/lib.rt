@@ -3,16 +3,17 @@
 #![tactic(auto)]
 
 ghost use Rattle.std.specs.Prelude.{◌≡◌};
-ghost use Rattle.script.specs.Script.{once, open_at, measure_at, fix_at, colour_at, move_at, name_of, named_at, call_at, with_times, repeated, text_line, line_of};
+ghost use Rattle.words.specs.Words.{Within};
+ghost use Rattle.script.specs.Script.{open_at, measure_at, fix_at, colour_at, move_at, name_of, named_at, call_at, times_at, calls_at, text_line, line_of};
 
 use dial::Dial;
 use scanning::Class;
-use words::{Due, Fault, Number, Verdict, Word};
+use words::{Fault, Found, Word};
 
 // A line has at most so many bytes, its line feed not counted.
 pub const LINE_LIMIT: usize = 65536;
 
-// A call as a line has it.
+// A call as a line has it. (A choice and a method stay numbers: the call refuses what is none.)
 #[derive(Clone, Copy)]
 pub enum Command {
     // The shot.
@@ -27,156 +28,98 @@ pub enum Command {
     Move(u32, Word, u32),
 }
 
-// What a line is read as.
+// So many calls, all the same.
 #[derive(Clone, Copy)]
-pub enum ScriptLine {
-    // White space, or a comment, and nothing else.
-    Blank,
-    // So many calls, all the same.
-    Calls(u32, Command),
-    NoCall(Fault),
+pub struct Calls {
+    pub times: u32,
+    pub command: Command,
 }
 
 // The names of the calls.
-#[derive(Clone, Copy)]
+#[derive(Clone, Copy, Debug, PartialEq, Eq)]
 enum Name {
     Open,
     Measure,
     Fix,
     Colour,
     Move,
-    Other,
-}
-
-// A call whose words have been looked at.
-fn once(verdict: Verdict, command: Command) -> ScriptLine
-    ensures { result ≡ once verdict command }
-{
-    match verdict {
-        Verdict::Good => ScriptLine::Calls(1, command),
-        Verdict::Bad(fault) => ScriptLine::NoCall(fault),
-    }
 }
 
 // open SHOT
-fn read_open(line: &[u8], place: usize) -> ScriptLine
+#[tactic(auto, unfolding(crate::specs::Script::open_at))]
+fn read_open(line: &[u8], place: usize) -> Result<Command, Fault>
     ensures { result ≡ open_at line.now place }
 {
-    let shot = words::read_shot(line, place);
-    let left = words::read_end(line, shot.end);
-    let verdict = shot.verdict;
-    once(words::first_bad(verdict, left), Command::Open(shot.value))
+    let shot = words::read_shot(line, place)?;
+    words::read_end(line, shot.end)?;
+    Ok(Command::Open(shot.value))
 }
 
 // measure SHOT STRIP
-fn read_measure(line: &[u8], place: usize) -> ScriptLine
+#[tactic(auto, unfolding(crate::specs::Script::measure_at))]
+fn read_measure(line: &[u8], place: usize) -> Result<Command, Fault>
     ensures { result ≡ measure_at line.now place }
 {
-    let shot = words::read_shot(line, place);
-    let strip = words::read_digits(Due::Strip, line, shot.end);
-    let word = strip.word;
-    let left = words::read_end(line, word.end);
-    let first = shot.verdict;
-    let second = strip.verdict;
-    once(
-        words::first_bad(first, words::first_bad(second, left)),
-        Command::Measure(shot.value, word),
-    )
+    let shot = words::read_shot(line, place)?;
+    let strip = words::read_strip(line, shot.end)?;
+    words::read_end(line, strip.end)?;
+    Ok(Command::Measure(shot.value, strip))
 }
 
 // fix SHOT CHOICE
-fn read_fix(line: &[u8], place: usize) -> ScriptLine
+#[tactic(auto, unfolding(crate::specs::Script::fix_at))]
+fn read_fix(line: &[u8], place: usize) -> Result<Command, Fault>
     ensures { result ≡ fix_at line.now place }
 {
-    let shot = words::read_shot(line, place);
-    let choice = words::read_number(line, shot.end);
-    let left = words::read_end(line, choice.end);
-    let first = shot.verdict;
-    let second = choice.verdict;
-    once(
-        words::first_bad(first, words::first_bad(second, left)),
-        Command::Fix(shot.value, choice.value),
-    )
+    let shot = words::read_shot(line, place)?;
+    let choice = words::read_number(line, shot.end)?;
+    words::read_end(line, choice.end)?;
+    Ok(Command::Fix(shot.value, choice.value))
 }
 
 // colour SHOT METHOD DIAL SOURCE DESTINATION
-fn read_colour(line: &[u8], place: usize) -> ScriptLine
+#[tactic(auto, unfolding(crate::specs::Script::colour_at))]
+fn read_colour(line: &[u8], place: usize) -> Result<Command, Fault>
     ensures { result ≡ colour_at line.now place }
 {
-    let shot = words::read_shot(line, place);
-    let method = words::read_number(line, shot.end);
-    let strength = dial_words::read_dial(line, method.end);
-    let dial = strength.dial;
-    let source = words::read_digits(Due::Strip, line, strength.end);
-    let from = source.word;
-    let destination = words::read_digits(Due::Strip, line, from.end);
-    let to = destination.word;
-    let left = words::read_end(line, to.end);
-    let first = shot.verdict;
-    let second = method.verdict;
-    let third = strength.verdict;
-    let fourth = source.verdict;
-    let fifth = destination.verdict;
-    once(
-        words::first_bad(
-            first,
-            words::first_bad(
-                second,
-                words::first_bad(
-                    third,
-                    words::first_bad(fourth, words::first_bad(fifth, left)),
-                ),
-            ),
-        ),
-        Command::Colour(shot.value, method.value, dial, from, to),
-    )
+    let shot = words::read_shot(line, place)?;
+    let method = words::read_number(line, shot.end)?;
+    let dial = dial_words::read_dial(line, method.end)?;
+    let source = words::read_strip(line, dial.end)?;
+    let destination = words::read_strip(line, source.end)?;
+    words::read_end(line, destination.end)?;
+    Ok(Command::Colour(shot.value, method.value, dial.value, source, destination))
 }
 
 // move METHOD PIXEL TARGET
-fn read_move(line: &[u8], place: usize) -> ScriptLine
+#[tactic(auto, unfolding(crate::specs::Script::move_at))]
+fn read_move(line: &[u8], place: usize) -> Result<Command, Fault>
     ensures { result ≡ move_at line.now place }
 {
-    let method = words::read_number(line, place);
-    let pixel = words::read_digits(Due::Pixel, line, method.end);
-    let word = pixel.word;
-    let target = words::read_number(line, word.end);
-    let left = words::read_end(line, target.end);
-    let first = method.verdict;
-    let second = pixel.verdict;
-    let third = target.verdict;
-    once(
-        words::first_bad(
-            first,
-            words::first_bad(second, words::first_bad(third, left)),
-        ),
-        Command::Move(method.value, word, target.value),
-    )
+    let method = words::read_number(line, place)?;
+    let pixel = words::read_pixel(line, method.end)?;
+    let target = words::read_number(line, pixel.end)?;
+    words::read_end(line, target.end)?;
+    Ok(Command::Move(method.value, pixel, target.value))
 }
 
 // The call that a word names.
-fn name_of(word: &[u8]) -> Name
+#[tactic(auto, using(crate::proofs::Names::name_read, std::proofs::lemmas::Bool::Decides::nat_tests))]
+fn name_of(word: &[u8]) -> Option<Name>
     ensures { result ≡ name_of word.now }
 {
-    if scanning::same(word, b"open") {
-        return Name::Open;
+    match word {
+        b"open" => Some(Name::Open),
+        b"measure" => Some(Name::Measure),
+        b"fix" => Some(Name::Fix),
+        b"colour" => Some(Name::Colour),
+        b"move" => Some(Name::Move),
+        _ => None,
     }
-    if scanning::same(word, b"measure") {
-        return Name::Measure;
-    }
-    if scanning::same(word, b"fix") {
-        return Name::Fix;
-    }
-    if scanning::same(word, b"colour") {
-        return Name::Colour;
-    }
-    if scanning::same(word, b"move") {
-        return Name::Move;
-    }
-    Name::Other
 }
 
-// What follows the name of a call.
-fn read_named(name: Name, line: &[u8], place: usize) -> ScriptLine
+// What follows the name of a call. (A match, and no table of functions, of which a contract would have to cover all five.)
+fn read_named(name: Name, line: &[u8], place: usize) -> Result<Command, Fault>
     ensures { result ≡ named_at name line.now place }
 {
     match name {
@@ -185,69 +128,64 @@ fn read_named(name: Name, line: &[u8], place: usize) -> ScriptLine
         Name::Fix => read_fix(line, place),
         Name::Colour => read_colour(line, place),
         Name::Move => read_move(line, place),
-        Name::Other => ScriptLine::NoCall(Fault::NoSuchCall),
     }
 }
 
 // The call that follows a place.
-fn read_call(line: &[u8], place: usize) -> ScriptLine
+#[tactic(auto, unfolding(crate::specs::Script::call_at))]
+fn read_call(line: &[u8], place: usize) -> Result<Command, Fault>
     ensures { result ≡ call_at line.now place }
 {
-    let word = words::word_at(line, place);
-    let start = word.start;
-    let end = word.end;
-    if start == end {
-        return ScriptLine::NoCall(Fault::TooFewWords);
-    }
-    read_named(name_of(&line[start..end]), line, end)
+    let word = words::read_word(line, place)?;
+    let name = name_of(word.bytes_in(line)).ok_or(Fault::NoSuchCall)?;
+    read_named(name, line, word.end)
 }
 
-// A call made so many times.
-fn with_times(times: u32, line: ScriptLine) -> ScriptLine
-    ensures { result ≡ with_times times line }
+// How often the call of a line is made, and where it stands: after `repeat` and a number as often as that says, else once.
+#[tactic(auto, using(words::proofs::Texts::same_answer), unfolding(crate::specs::Script::times_at))]
+fn read_times(line: &[u8], first: Word) -> Result<Found<u32>, Fault>
+    requires { Within first line.now }
+    ensures { result ≡ times_at line.now first }
 {
-    match line {
-        ScriptLine::Blank => ScriptLine::Blank,
-        ScriptLine::Calls(_, command) => ScriptLine::Calls(times, command),
-        ScriptLine::NoCall(fault) => ScriptLine::NoCall(fault),
+    if first.bytes_in(line) == b"repeat".as_slice() {
+        return words::read_number(line, first.end);
     }
+    Ok(Found { value: 1, end: 0 })
 }
 
-// A call that is repeated.
-fn repeated(times: Number, line: ScriptLine) -> ScriptLine
-    ensures { result ≡ repeated times line }
+// A call, and how often it is made.
+#[tactic(auto, unfolding(crate::specs::Script::calls_at))]
+fn read_calls(line: &[u8], first: Word) -> Result<Option<Calls>, Fault>
+    requires { Within first line.now }
+    ensures { result ≡ calls_at line.now first }
 {
-    let verdict = times.verdict;
-    match verdict {
-        Verdict::Good => with_times(times.value, line),
-        Verdict::Bad(fault) => ScriptLine::NoCall(fault),
-    }
+    let times = read_times(line, first)?;
+    let command = read_call(line, times.end)?;
+    Ok(Some(Calls {
+        times: times.value,
+        command,
+    }))
 }
 
 // What a line without its comment is read as.
-fn read_text(line: &[u8]) -> ScriptLine
+#[tactic(auto, unfolding(crate::specs::Script::text_line))]
+fn read_text(line: &[u8]) -> Result<Option<Calls>, Fault>
     ensures { result ≡ text_line line.now }
 {
-    let word = words::word_at(line, 0);
-    let start = word.start;
-    let end = word.end;
-    if start == end {
-        return ScriptLine::Blank;
-    }
-    if !scanning::same(&line[start..end], b"repeat") {
-        return read_call(line, 0);
-    }
-    let times = words::read_number(line, end);
-    let call = read_call(line, times.end);
-    repeated(times, call)
+    let Some(first) = words::word_at(line, 0) else {
+        return Ok(None);
+    };
+    read_calls(line, first)
 }
 
-// What a line is read as. A comment begins with # and reaches to the end of the line.
-pub fn read_line(line: &[u8]) -> ScriptLine
+// What a line is read as: `None` where it is white space, or a comment, and nothing else. A comment begins with # and reaches to the
+// end of the line.
+#[tactic(auto, unfolding(crate::specs::Script::line_of))]
+pub fn read_line(line: &[u8]) -> Result<Option<Calls>, Fault>
     ensures { result ≡ line_of line.now }
 {
     if LINE_LIMIT < line.len() {
-        return ScriptLine::NoCall(Fault::TooLong);
+        return Err(Fault::TooLong);
     }
     let end = scanning::run_end(Class::Uncommented, line, 0);
     read_text(&line[..end])

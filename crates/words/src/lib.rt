@@ -1,8 +1,8 @@
 // The words of a line of a script: white space, numbers, and bytes in hexadecimal digits.
 #![tactic(auto)]
 
-ghost use Rattle.std.specs.Prelude.{◌≡◌};
-ghost use Rattle.words.specs.Words.{word_at, number_of, first_bad, good_if, number_at, is_shot, shot_at, is_strip, is_pixel, verdict_of, digits_at, end_at};
+ghost use Rattle.std.specs.Prelude.{◌≡◌, IfSome, IfOk};
+ghost use Rattle.words.specs.Words.{Within, word_at, word_in, word_due, number_of, number_at, is_shot, shot_at, is_strip, strip_at, is_pixel, pixel_at, end_at};
 
 use scanning::Class;
 
@@ -12,18 +12,34 @@ const LAST_SHOT: u32 = 4;
 // A number of a script has at most so many digits.
 const DIGIT_LIMIT: usize = 10;
 
-// The largest number of 32 bits.
-const LARGEST: u64 = 4294967295;
-
-// Where a word stands in its line: from `start` up to `end`, the place after it. Where none is left, the two are one.
+// Where a word stands in its line: from `start` up to `end`, the place after it. (Places, and no slice of the line: what a line is read as
+// is then plain data, which the examples give in figures.)
 #[derive(Clone, Copy)]
 pub struct Word {
     pub start: usize,
     pub end: usize,
 }
 
-// Why a line is no call.
+impl Word {
+    // The bytes of a word of a line.
+    pub fn bytes_in(self, line: &[u8]) -> &[u8]
+        requires { Within self line.now }
+        ensures { result.now ≡ word_in line.now self }
+    {
+        &line[self.start..self.end]
+    }
+}
+
+// What words of a line stand for, and the place after them.
+// A cursor over the line would save no argument in the contracts: each would speak of its place before and after.
 #[derive(Clone, Copy)]
+pub struct Found<T> {
+    pub value: T,
+    pub end: usize,
+}
+
+// Why a line is no call.
+#[derive(Clone, Copy, Debug, PartialEq, Eq)]
 pub enum Fault {
     // The line has more bytes than a line may have.
     TooLong,
@@ -47,198 +63,123 @@ pub enum Fault {
     NotAFloat,
 }
 
-// Whether a word is what is due at its place.
-#[derive(Clone, Copy)]
-pub enum Verdict {
-    Good,
-    Bad(Fault),
-}
-
-// A number among the words of a line, and the place after it. Where there is none, it is 0.
-#[derive(Clone, Copy)]
-pub struct Number {
-    pub value: u32,
-    pub end: usize,
-    pub verdict: Verdict,
-}
-
-// Bytes among the words of a line.
-#[derive(Clone, Copy)]
-pub struct Digits {
-    pub word: Word,
-    pub verdict: Verdict,
-}
-
-// The bytes that are due at a place.
-#[derive(Clone, Copy)]
-pub enum Due {
-    Strip,
-    Pixel,
-}
-
-// What a word stands for as a number.
-#[derive(Clone, Copy)]
-enum Value {
-    Number(u32),
-    NoNumber,
-}
-
-// The word that follows a place: past white space, up to the next.
-pub fn word_at(line: &[u8], place: usize) -> Word
-    ensures { result ≡ word_at line.now place }
+// The word that follows a place: past white space, up to the next. It has at least one byte; `None` where no word is left.
+#[tactic(auto, using(crate::proofs::Places::found_within), unfolding(crate::specs::Words::word_at))]
+pub fn word_at(line: &[u8], place: usize) -> Option<Word>
+    ensures value { result ≡ word_at line.now place }
+    ensures within { IfSome result (λ word. Within word line.now) }
 {
-    if line.len() <= place {
-        return Word {
-            start: line.len(),
-            end: line.len(),
-        };
-    }
     let start = scanning::run_end(Class::Space, line, place);
     let end = scanning::run_end(Class::Word, line, start);
-    Word { start, end }
+    if start == end {
+        return None;
+    }
+    Some(Word { start, end })
+}
+
+// The word that has to follow a place.
+#[tactic(auto, unfolding(crate::specs::Words::word_due))]
+pub fn read_word(line: &[u8], place: usize) -> Result<Word, Fault>
+    ensures value { result ≡ word_due line.now place }
+    ensures within { IfOk result (λ word. Within word line.now) }
+{
+    word_at(line, place).ok_or(Fault::TooFewWords)
 }
 
 // The number that a word stands for: 1 to 10 digits, and no more than 32 bits hold.
-fn number_of(word: &[u8]) -> Value
+#[tactic(auto, unfolding(crate::specs::Words::number_of))]
+fn number_of(word: &[u8]) -> Option<u32>
     ensures { result ≡ number_of word.now }
 {
-    if word.len() == 0 {
-        return Value::NoNumber;
-    }
-    if DIGIT_LIMIT < word.len() {
-        return Value::NoNumber;
+    if word.is_empty() || DIGIT_LIMIT < word.len() {
+        return None;
     }
     if scanning::run_end(Class::Digit, word, 0) != word.len() {
-        return Value::NoNumber;
+        return None;
     }
-    let value = text::read_decimal(word);
-    if LARGEST < value {
-        return Value::NoNumber;
-    }
-    Value::Number(value as u32)
-}
-
-// The first of two verdicts that is bad, if any is.
-pub fn first_bad(first: Verdict, second: Verdict) -> Verdict
-    ensures { result ≡ first_bad first second }
-{
-    match first {
-        Verdict::Good => second,
-        Verdict::Bad(fault) => Verdict::Bad(fault),
-    }
-}
-
-// Good if so, else at fault.
-fn good_if(so: bool, fault: Fault) -> Verdict
-    ensures { result ≡ good_if so fault }
-{
-    if so {
-        return Verdict::Good;
-    }
-    Verdict::Bad(fault)
+    u32::try_from(text::read_decimal(word)).ok()
 }
 
 // The number that follows a place.
-pub fn read_number(line: &[u8], place: usize) -> Number
+#[tactic(auto, unfolding(crate::specs::Words::number_at))]
+pub fn read_number(line: &[u8], place: usize) -> Result<Found<u32>, Fault>
     ensures { result ≡ number_at line.now place }
 {
-    let word = word_at(line, place);
-    let start = word.start;
-    let end = word.end;
-    if start == end {
-        return Number {
-            value: 0,
-            end,
-            verdict: Verdict::Bad(Fault::TooFewWords),
-        };
-    }
-    match number_of(&line[start..end]) {
-        Value::Number(value) => Number {
-            value,
-            end,
-            verdict: Verdict::Good,
-        },
-        Value::NoNumber => Number {
-            value: 0,
-            end,
-            verdict: Verdict::Bad(Fault::NotANumber),
-        },
-    }
+    let word = read_word(line, place)?;
+    let value = number_of(word.bytes_in(line)).ok_or(Fault::NotANumber)?;
+    Ok(Found {
+        value,
+        end: word.end,
+    })
 }
 
 // Whether a number is that of a shot.
 fn is_shot(number: u32) -> bool
     ensures { result ≡ is_shot number }
 {
-    1 <= number && number <= LAST_SHOT
+    (1..=LAST_SHOT).contains(&number)
 }
 
 // The shot's number that follows a place.
-pub fn read_shot(line: &[u8], place: usize) -> Number
+#[tactic(auto, unfolding(crate::specs::Words::shot_at))]
+pub fn read_shot(line: &[u8], place: usize) -> Result<Found<u32>, Fault>
     ensures { result ≡ shot_at line.now place }
 {
-    let number = read_number(line, place);
-    let verdict = number.verdict;
-    Number {
-        value: number.value,
-        end: number.end,
-        verdict: first_bad(verdict, good_if(is_shot(number.value), Fault::NoSuchShot)),
+    let shot = read_number(line, place)?;
+    if !is_shot(shot.value) {
+        return Err(Fault::NoSuchShot);
     }
+    Ok(shot)
 }
 
 // Whether a word is a strip: pairs of hexadecimal digits, or - for an empty one.
+#[tactic(auto, using(crate::proofs::Texts::same_answer))]
 fn is_strip(word: &[u8]) -> bool
     ensures { result ≡ is_strip word.now }
 {
-    if scanning::same(word, b"-") {
-        return true;
-    }
-    hexadecimal::is_pairs(word)
+    word == b"-".as_slice() || hexadecimal::is_pairs(word)
 }
 
 // Whether a word is a pixel: six hexadecimal digits.
 fn is_pixel(word: &[u8]) -> bool
     ensures { result ≡ is_pixel word.now }
 {
-    if word.len() != 6 {
-        return false;
-    }
-    hexadecimal::is_pairs(word)
+    word.len() == 6 && hexadecimal::is_pairs(word)
 }
 
-// Whether a word is what is due.
-fn verdict_of(due: Due, word: &[u8]) -> Verdict
-    ensures { result ≡ verdict_of due word.now }
+// The strip that follows a place.
+// One function for strips and pixels, with the test handed in, would need a contract on what a closure returns, longer than both; with a
+// name of what is due it would switch on that.
+#[tactic(auto, unfolding(crate::specs::Words::strip_at))]
+pub fn read_strip(line: &[u8], place: usize) -> Result<Word, Fault>
+    ensures { result ≡ strip_at line.now place }
 {
-    match due {
-        Due::Strip => good_if(is_strip(word), Fault::NotPairs),
-        Due::Pixel => good_if(is_pixel(word), Fault::NotAPixel),
+    let word = read_word(line, place)?;
+    if !is_strip(word.bytes_in(line)) {
+        return Err(Fault::NotPairs);
     }
+    Ok(word)
 }
 
-// The bytes that follow a place, as they are due.
-pub fn read_digits(due: Due, line: &[u8], place: usize) -> Digits
-    ensures { result ≡ digits_at due line.now place }
+// The pixel that follows a place.
+#[tactic(auto, unfolding(crate::specs::Words::pixel_at))]
+pub fn read_pixel(line: &[u8], place: usize) -> Result<Word, Fault>
+    ensures { result ≡ pixel_at line.now place }
 {
-    let word = word_at(line, place);
-    let start = word.start;
-    let end = word.end;
-    if start == end {
-        return Digits {
-            word,
-            verdict: Verdict::Bad(Fault::TooFewWords),
-        };
+    let word = read_word(line, place)?;
+    if !is_pixel(word.bytes_in(line)) {
+        return Err(Fault::NotAPixel);
     }
-    Digits {
-        word,
-        verdict: verdict_of(due, &line[start..end]),
-    }
+    Ok(word)
 }
 
-// Whether no word is left after a place.
-pub fn read_end(line: &[u8], place: usize) -> Verdict
+// Sees that no word is left after a place.
+#[tactic(auto, unfolding(crate::specs::Words::end_at))]
+pub fn read_end(line: &[u8], place: usize) -> Result<(), Fault>
     ensures { result ≡ end_at line.now place }
 {
-    let word = word_at(line, place);
-    good_if(word.start == word.end, Fault::TooManyWords)
+    if word_at(line, place).is_some() {
+        return Err(Fault::TooManyWords);
+    }
+    Ok(())
 }

@@ -1,4 +1,3 @@
 pub mod Premise
-pub mod Replies
 pub mod Lists
 pub mod Scripts

@@ -4,32 +4,36 @@ use mathlib.Core.Bool.{true, cond}
 use mathlib.Core.List.Memᴰ
 use mathlib.Core.List.{List, [], ◌∷◌, ◌++◌, map}
 use mathlib.Core.Logic.{⊎_elim}
-use Prim.Native.Nat.{ℕ, zero, suc, ◌+◌, ◌-◌, ◌≤◌}
+use Prim.Native.Nat.{ℕ, zero, suc, ◌+◌, ◌-◌, ◌≤◌, ◌<◌}
 use native.Mathlib.Omega.{arith}
 use borrow.Author.Tests.{leb-true, eqb-true}
+use Rattle.std.proofs.lemmas.Bool.{eqb-false}
+use Rattle.std.proofs.lemmas.Grind.{get_or-set_at}
+use Rattle.std.proofs.lemmas.List.{get_or-set_other}
 use borrow.Table.Steps.{cases}
 use lib.Dec.{leb, eqb}
+use lib.ListN.{length, get_or, set, length-set}
 use Rattle.tables.specs.Table.{◌among◌}
-use Rattle.tables.proofs.Cases.{both}
+use Rattle.std.proofs.lemmas.Bool.{and_parts}
 use Rattle.words.specs.Words.{is_shot}
 use Rattle.script.specs.Script.{IsCall, HasCall}
 use Rattle.script.specs.declared.Command.{Command}
 use Rattle.script.specs.declared.Command.TheVariants.{Open, Measure, Fix, Colour, Move}
-use Rattle.script.proofs.Calls.{calls_are_due}
+use Rattle.script.proofs.Due.{calls_are_due}
 use Rattle.shot.specs.Shot.{opened}
 use Rattle.shot.specs.declared.Shot.{Shot}
 use Rattle.book.specs.Book.{Call, Book, empty_book}
 use Rattle.book.specs.Run.{step, trace_from, WellFormed}
 use Rattle.book.proofs.Accuracy.{accuracy}
-use Rattle.interpreter.specs.Interpreter.{new_shots, shot_of, with_shot, Request, Request.calling, Request.moving, request_in, call_text, on_shot, reply_to, answer_to}
+use Rattle.interpreter.specs.Interpreter.{place_of, new_shots, shot_of, with_shot, Request, Request.calling, Request.moving, request_in, call_text, on_shot, reply_to}
 use Rattle.interpreter.specs.Lists.{ScriptCall, shots_after, if_on, calls_on, answers_on, shot_after, step_text, ListsRunSideBySide}
 use Rattle.interpreter.specs.declared.Shots.{Shots}
-use Rattle.interpreter.proofs.Premise.{BringsBytes, brings_bytes}
+use Rattle.interpreter.proofs.Premise.{by_place, BringsBytes, brings_bytes}
 
 -- what holds of 1 to 4 holds of every shot's number
 by_shot : (P : ℕ → Type 0) → P 1 → P 2 → P 3 → P 4 → (n : ℕ) → is_shot n ≡ true → P n
 by_shot P one two three four n is =
-    let (low, high) = both (leb 1 n) (leb n 4) is in
+    let (low, high) = and_parts (leb 1 n) (leb n 4) is in
     go (n - 1) (omega (arith, leb-true 1 n low)) (leb-true n 4 high)
   where
     go : (k : ℕ) → n ≡ 1 + k → n ≤ 4 → P n
@@ -39,17 +43,39 @@ by_shot P one two three four n is =
     go (suc (suc (suc zero))) e h = subst P (sym e) four
     go (suc (suc (suc (suc k)))) e h = absurd (omega arith)
 
--- a shot put in the place of its number stands there, and the others stay
-placed : (shots : Shots) (x : Shot) (shot number : ℕ) → is_shot shot ≡ true → is_shot number ≡ true
-    → shot_of (with_shot shots shot x) number ≡ cond (eqb shot number) x (shot_of shots number)
-placed shots x shot number is there =
-    by_shot (λ s. shot_of (with_shot shots s x) number ≡ cond (eqb s number) x (shot_of shots number))
-    (by_shot (λ n. shot_of (with_shot shots 1 x) n ≡ cond (eqb 1 n) x (shot_of shots n)) refl refl refl refl number there)
-    (by_shot (λ n. shot_of (with_shot shots 2 x) n ≡ cond (eqb 2 n) x (shot_of shots n)) refl refl refl refl number there)
-    (by_shot (λ n. shot_of (with_shot shots 3 x) n ≡ cond (eqb 3 n) x (shot_of shots n)) refl refl refl refl number there)
-    (by_shot (λ n. shot_of (with_shot shots 4 x) n ≡ cond (eqb 4 n) x (shot_of shots n)) refl refl refl refl number there)
+-- the elements of a list after one is put in a place
+get_or_set : {A : Type 0} (l : List A) (i j : ℕ) (x d : A) → i < length l → get_or (set l i x) j d ≡ cond (eqb i j) x (get_or l j d)
+get_or_set l i j x d there =
+    cases (eqb i j)
+    (λ same. rw same (get_or-set_at l i j x d (sym (eqb-true i j same)) there))
+    (λ other. rw other (get_or-set_other l i j x d (λ e. eqb-false i j other (sym e))))
+
+-- shots with different numbers have different places
+places_apart : (shot number : ℕ) → is_shot shot ≡ true → is_shot number ≡ true → eqb (place_of shot) (place_of number) ≡ eqb shot number
+places_apart shot number is there =
+    by_shot (λ s. eqb (place_of s) (place_of number) ≡ eqb s number)
+    (by_shot (λ n. eqb (place_of 1) (place_of n) ≡ eqb 1 n) refl refl refl refl number there)
+    (by_shot (λ n. eqb (place_of 2) (place_of n) ≡ eqb 2 n) refl refl refl refl number there)
+    (by_shot (λ n. eqb (place_of 3) (place_of n) ≡ eqb 3 n) refl refl refl refl number there)
+    (by_shot (λ n. eqb (place_of 4) (place_of n) ≡ eqb 4 n) refl refl refl refl number there)
     shot
     is
+
+-- a script has four shots
+abbrev AreFour : Shots → Type 0
+AreFour shots = length shots.all ≡ 4
+
+four_stay : (shots : Shots) (request : Request) → AreFour shots → AreFour (reply_to shots request).shots
+four_stay shots (calling shot call) four = length-set shots.all (place_of shot) _ ∙ four
+four_stay shots (moving method pixel target) four = four
+
+-- a shot put in the place of its number stands there, and the others stay
+placed : (shots : Shots) → AreFour shots → (x : Shot) (shot number : ℕ) → is_shot shot ≡ true → is_shot number ≡ true
+    → shot_of (with_shot shots shot x) number ≡ cond (eqb shot number) x (shot_of shots number)
+placed shots four x shot number is there =
+    get_or_set shots.all (place_of shot) (place_of number) x opened
+    (omega (arith, by_place shot (λ place. place < 4) (omega arith) (omega arith) (omega arith) (omega arith)))
+    ∙ ap (λ t. cond t x (shot_of shots number)) (places_apart shot number is there)
 
 -- a request names a shot that there is
 abbrev NamesShot : Request → Type 0
@@ -73,11 +99,11 @@ texts_of_trace [] n x b = refl
 texts_of_trace (call ∷ calls) n x b = ap (λ (ts : List (List ℕ)). call_text call (step x call) ∷ ts) (texts_of_trace calls _ _ _)
 
 -- One request, for the shot with a number: the shot after it, and what is told.
-module _ (number : ℕ) (there : is_shot number ≡ true) (shots : Shots) where
+module _ (number : ℕ) (there : is_shot number ≡ true) (shots : Shots) (four : AreFour shots) where
   call_shot : (shot : ℕ) (call : Call) → is_shot shot ≡ true
       → shot_of (on_shot shots shot call).shots number ≡ cond (eqb shot number) (step (shot_of shots number) call).answer.shot (shot_of shots number)
   call_shot shot call is =
-      placed shots (step (shot_of shots shot) call).answer.shot shot number is there
+      placed shots four (step (shot_of shots shot) call).answer.shot shot number is there
       ∙ cases (eqb shot number)
       (λ same. rw same (ap (λ (s : ℕ). (step (shot_of shots s) call).answer.shot) (eqb-true shot number same)))
       (λ other. rw other refl)
@@ -110,22 +136,23 @@ module _ (number : ℕ) (there : is_shot number ≡ true) where
   names : (c : ScriptCall) → HasCall c.line c.command → NamesShot (request_in c.line c.command)
   names c has = names_shot c.line c.command (calls_are_due.due c.line c.command has)
 
-  shots_follow : (calls : List ScriptCall) → Read calls → (shots : Shots)
+  shots_follow : (calls : List ScriptCall) → Read calls → (shots : Shots) → AreFour shots
       → shot_of (shots_after shots calls) number ≡ shot_after (shot_of shots number) (calls_on number calls)
-  shots_follow [] read shots = refl
-  shots_follow (c ∷ calls) read shots =
-      shots_follow calls (λ d m. read d (Memᴰ.tail m)) (answer_to c.line shots c.command).shots
-      ∙ shot_on number there shots (request_in c.line c.command) (names c (read c (Memᴰ.head refl))) (calls_on number calls)
+  shots_follow [] read shots four = refl
+  shots_follow (c ∷ calls) read shots four =
+      let request = request_in c.line c.command in
+      shots_follow calls (λ d m. read d (Memᴰ.tail m)) (reply_to shots request).shots (four_stay shots request four)
+      ∙ shot_on number there shots four request (names c (read c (Memᴰ.head refl))) (calls_on number calls)
 
-  answers_follow : (calls : List ScriptCall) → Read calls → (shots : Shots)
+  answers_follow : (calls : List ScriptCall) → Read calls → (shots : Shots) → AreFour shots
       → answers_on number shots calls ≡ texts (shot_of shots number) (calls_on number calls)
-  answers_follow [] read shots = refl
-  answers_follow (c ∷ calls) read shots =
+  answers_follow [] read shots four = refl
+  answers_follow (c ∷ calls) read shots four =
       let request = request_in c.line c.command in
       let reply = reply_to shots request in
       ap (λ (rest : List (List ℕ)). if_on number request (λ call. reply.text) ++ rest)
-      (answers_follow calls (λ d m. read d (Memᴰ.tail m)) reply.shots)
-      ∙ texts_on number there shots request (names c (read c (Memᴰ.head refl))) (calls_on number calls)
+      (answers_follow calls (λ d m. read d (Memᴰ.tail m)) reply.shots (four_stay shots request four))
+      ∙ texts_on number there shots four request (names c (read c (Memᴰ.head refl))) (calls_on number calls)
 
   new_shot : shot_of new_shots number ≡ opened
   new_shot = by_shot (λ n. shot_of new_shots n ≡ opened) refl refl refl refl number there
@@ -151,10 +178,10 @@ well_formed_lem number (c ∷ calls) call member =
 pub lists_run_side_by_side : ListsRunSideBySide
 lists_run_side_by_side = record {
   shots = λ calls read number there.
-      shots_follow number there calls read new_shots
+      shots_follow number there calls read new_shots refl
       ∙ ap (λ (x : Shot). shot_after x (calls_on number calls)) (new_shot number there);
   answers = λ calls read number there.
-      answers_follow number there calls read new_shots
+      answers_follow number there calls read new_shots refl
       ∙ ap (λ (x : Shot). texts x (calls_on number calls)) (new_shot number there)
       ∙ texts_of_trace (calls_on number calls) 0 opened empty_book;
   accurate = λ calls number. accuracy (calls_on number calls) (well_formed_lem number calls);

@@ -1,13 +1,12 @@
 -- What the program `replay` does with a line of a script, and answers.
-use Rattle.std.specs.Prelude.{◌≡◌, cond, List, [], ◌∷◌, ℕ, eqb}
+use Rattle.std.specs.Prelude.{◌≡◌, cond, List, [], ◌∷◌, ℕ, eqb, get_or, set}
 use Rattle.hexadecimal.specs.Hexadecimal.{decoded}
 use Rattle.words.specs.Words.{word_in}
 use Rattle.answers.specs.Answers.{number_text, bytes_text, WritesAnswer}
 use Rattle.script.specs.declared.Command.{Command}
 use Rattle.script.specs.declared.Command.TheVariants.{Open, Measure, Fix, Colour, Move}
-use Rattle.pixel.specs.MoveOne.{moved_one}
+use Rattle.pixel.specs.MoveOne.{Moved, moved_one}
 use Rattle.pixel.specs.Strip.{pixel_from}
-use Rattle.pixel.specs.declared.Moved.{Moved}
 use Rattle.pixel.specs.declared.Pixel.{Pixel}
 use Rattle.shot.specs.Reachable.{Reachable}
 use Rattle.shot.specs.Shot.{opened, Outcome}
@@ -15,35 +14,27 @@ use Rattle.shot.specs.declared.Answer.{Answer}
 use Rattle.shot.specs.declared.Shot.{Shot}
 use Rattle.book.specs.Book.{Call, Call.opening, Call.measuring, Call.fixing, Call.colouring}
 use Rattle.book.specs.Run.{step}
-use Rattle.interpreter.specs.declared.Answered.{Answered}
 use Rattle.interpreter.specs.declared.Shots.{Shots}
 
 -- The shots with which a script starts are newly opened.
 abbrev pub new_shots : Shots
-new_shots = record { first = opened; second = opened; third = opened; fourth = opened }
+new_shots = record { all = opened ∷ opened ∷ opened ∷ opened ∷ [] }
 
--- The shot with a number from 1 to 4. (A line that is read as a call has no other.)
+-- The place of the shot with a number from 1 to 4. (A line that is read as a call has no other.)
+abbrev pub place_of : ℕ → ℕ
+place_of number = cond (eqb number 1) 0 (cond (eqb number 2) 1 (cond (eqb number 3) 2 3))
+
+-- The shot with this number.
 abbrev pub shot_of : Shots → ℕ → Shot
-shot_of shots number =
-    cond (eqb number 1) shots.first (cond (eqb number 2) shots.second (cond (eqb number 3) shots.third shots.fourth))
+shot_of shots number = get_or shots.all (place_of number) opened
 
 -- The shots, with this one in the place of its number.
 abbrev pub with_shot : Shots → ℕ → Shot → Shots
-with_shot shots number shot =
-    cond (eqb number 1)
-    (record { first = shot; second = shots.second; third = shots.third; fourth = shots.fourth })
-    (cond (eqb number 2)
-    (record { first = shots.first; second = shot; third = shots.third; fourth = shots.fourth })
-    (cond (eqb number 3)
-    (record { first = shots.first; second = shots.second; third = shot; fourth = shots.fourth })
-    (record { first = shots.first; second = shots.second; third = shots.third; fourth = shot })))
+with_shot shots number shot = record { all = set shots.all (place_of number) shot }
 
--- The premise of the calls: every shot came from opening, measuring and fixing.
+-- Every shot came from opening, measuring and fixing.
 pub record AllReachable (shots : Shots) : Type 0 where
-  pub first : Reachable shots.first
-  pub second : Reachable shots.second
-  pub third : Reachable shots.third
-  pub fourth : Reachable shots.fourth
+  pub each : (number : ℕ) → Reachable (shot_of shots number)
 
 -- What a command of a script asks for: a call on one of its shots, or a single move.
 pub data Request : Type 0 where
@@ -96,11 +87,11 @@ reply_to shots (moving method pixel target) = record { shots = shots; text = mov
 abbrev pub answer_to : List ℕ → Shots → Command → Reply
 answer_to line shots command = reply_to shots (request_in line command)
 
--- What a function that carries out a command promises: the shots handed back are those of the reply, and its text stands at the start
+-- What a function that carries out a command promises: the shots that it leaves are those of the reply, and its text stands at the start
 -- of the output.
-pub record LeavesReply (reply : Reply) (before : List ℕ) (answered : Answered) (after : List ℕ) : Type 0 where
-  pub shots : answered.shots ≡ reply.shots
-  pub text : WritesAnswer reply.text before answered.size after
+pub record LeavesReply (reply : Reply) (before : List ℕ) (left : Shots) (size : ℕ) (after : List ℕ) : Type 0 where
+  pub shots : left ≡ reply.shots
+  pub text : WritesAnswer reply.text before size after
 
 -- Claim: whatever the command, the shots that it leaves came from opening, measuring and fixing too. Proved: proofs/Premise.antt,
 -- `replies_keep_premise`.

@@ -1,10 +1,8 @@
 -- What a whole script is answered.
-use Rattle.std.specs.Prelude.{◌≡◌, cond, List, [], ◌∷◌, ◌++◌, map, ℕ, zero, suc, eqb, length}
+use Rattle.std.specs.Prelude.{◌≡◌, cond, List, [], ◌∷◌, ◌++◌, map, ℕ, zero, suc, eqb, length, Some, None, Ok, Err}
 use Rattle.text.specs.Text.{ascii}
-use Rattle.script.specs.Script.{line_of}
+use Rattle.script.specs.Script.{ScriptLine, line_of}
 use Rattle.script.specs.declared.Command.{Command}
-use Rattle.script.specs.declared.ScriptLine.{ScriptLine}
-use Rattle.script.specs.declared.ScriptLine.TheVariants.{Blank, Calls, NoCall}
 use Rattle.answers.specs.Answers.{fault_text}
 use Rattle.interpreter.specs.Interpreter.{new_shots, Reply, answer_to}
 use Rattle.interpreter.specs.declared.Shots.{Shots}
@@ -24,9 +22,9 @@ replies_to (suc times) line command shots =
 
 -- What a line leaves, by its number and what it is read as: a line that is no call changes no shot.
 abbrev pub line_reply : ℕ → List ℕ → ScriptLine → Shots → Reply
-line_reply number line Blank shots = record { shots = shots; text = [] }
-line_reply number line (Calls times command) shots = replies_to times line command shots
-line_reply number line (NoCall fault) shots = record { shots = shots; text = fault_text fault number }
+line_reply number line (Ok None) shots = record { shots = shots; text = [] }
+line_reply number line (Ok (Some calls)) shots = replies_to calls.times line calls.command shots
+line_reply number line (Err fault) shots = record { shots = shots; text = fault_text fault number }
 
 -- The answers to lines, from this number and these shots on.
 unfoldable pub answers_from : ℕ → Shots → List (List ℕ) → List ℕ

@@ -3,340 +3,186 @@
 // have any length.
 #![tactic(auto)]
 
-ghost use Rattle.std.specs.Prelude.{◌≡◌, ◌<◌, ◌≤◌, true, false, length};
+ghost use Rattle.std.specs.Prelude.{◌≡◌, ◌+◌, ◌<◌, ◌≤◌, true, false, length, IfSome, IfOk, OnOk};
 ghost use Rattle.script.specs.Script.{line_of, HasCall};
-ghost use Rattle.answers.specs.Answers.{text_limit};
-ghost use Rattle.interpreter.specs.Interpreter.{AllReachable};
 ghost use Rattle.interpreter.specs.Scripts.{replies_to, line_reply};
 
 use interpreter::Shots;
 use scanning::Class;
-use script::{Command, ScriptLine};
+use script::Calls;
+use std::fmt;
 use std::io::{Read, Write};
 use words::Fault;
 
 // Room for a line and its line feed: what fills it without one is a line that is too long.
 const ROOM: usize = script::LINE_LIMIT + 1;
 
-// What a script has come to: its shots, how many lines have ended, whether the line at hand is too long, so that its bytes so far were
-// thrown away, and whether all answers were written.
-#[derive(Clone, Copy)]
-struct Session {
+// Why the program ends before its script does.
+#[derive(Clone, Copy, Debug, PartialEq, Eq)]
+enum Failure {
+    Reading,
+    Writing,
+}
+
+impl fmt::Display for Failure {
+    fn fmt<W: fmt::Write>(&self, f: &mut fmt::Formatter<W>) -> fmt::Result {
+        match self {
+            Failure::Reading => write!(f, "the script could not be read"),
+            Failure::Writing => write!(f, "the answers could not be written"),
+        }
+    }
+}
+
+// Writes an answer.
+fn write_answer(writer: &mut impl Write, answer: &[u8]) -> Result<(), Failure> {
+    writer.write_all(answer).map_err(|_| Failure::Writing)
+}
+
+// Where the answers of a script go, and what it has come to.
+#[derive(Drop)]
+struct Replay<W> {
+    writer: W,
+    // the answer at hand
+    output: [u8; answers::TEXT_LIMIT],
     shots: Shots,
+    // how many lines have ended
     lines: u64,
+    // whether the line at hand is too long, so that its bytes so far were thrown away
     overlong: bool,
-    written: bool,
 }
 
-// How far the bytes at hand have been answered: `start` is the place after the last line feed.
-#[derive(Clone, Copy)]
-struct Progress {
-    session: Session,
-    start: usize,
-}
-
-// Where the bytes that were read end, and whether reading failed.
-#[derive(Clone, Copy)]
-struct Arrived {
-    end: usize,
-    failed: bool,
-}
-
-// The script so far, how many bytes of the line at hand are held, and whether there is more to come.
-#[derive(Clone, Copy)]
-struct State {
-    session: Session,
-    held: usize,
-    goes_on: bool,
-}
-
-// Writes so many bytes of the output.
-fn write_answer(writer: &mut impl Write, output: &[u8], size: usize) -> bool
-    requires { size ≤ length output.now }
-{
-    writer.write_all(&output[..size]).is_ok()
-}
-
-// Makes a line's calls, one after the other.
-fn make_calls(
-    writer: &mut impl Write,
-    shots: Shots,
-    lines: u64,
-    times: u32,
-    command: Command,
-    line: &[u8],
-    output: &mut [u8],
-) -> Session
-    requires all_reachable { AllReachable shots }
-    requires has_call { HasCall line.now command }
-    requires text_limit_in_bounds { text_limit ≤ length output.old }
-    ensures leaves_reachable { AllReachable result.shots }
-    ensures calls_made { result.written ≡ true → result.shots ≡ (replies_to times line.now command shots).shots }
-{
-    let mut now = shots;
-    let mut left = times;
-    while 0 < left {
-        let answered = interpreter::answer(now, command, line, output);
-        now = answered.shots;
-        if !write_answer(writer, output, answered.size) {
-            return Session {
-                shots: now,
-                lines,
-                overlong: false,
-                written: false,
-            };
-        }
-        left -= 1;
-    }
-    Session {
-        shots: now,
-        lines,
-        overlong: false,
-        written: true,
-    }
-}
-
-// Answers that a line is no call.
-fn answer_fault(
-    writer: &mut impl Write,
-    shots: Shots,
-    lines: u64,
-    fault: Fault,
-    output: &mut [u8],
-) -> Session
-    requires all_reachable { AllReachable shots }
-    requires text_limit_in_bounds { text_limit ≤ length output.old }
-    ensures leaves_reachable { AllReachable result.shots }
-    ensures shots_stay { result.shots ≡ shots }
-{
-    let size = answers::write_fault(fault, lines, output);
-    Session {
-        shots,
-        lines,
-        overlong: false,
-        written: write_answer(writer, output, size),
-    }
-}
-
-// Answers a line; of one that is too long, the bytes at hand are its last.
-fn answer_line(writer: &mut impl Write, session: Session, line: &[u8], output: &mut [u8]) -> Session
-    requires all_reachable { AllReachable session.shots }
-    requires text_limit_in_bounds { text_limit ≤ length output.old }
-    ensures leaves_reachable { AllReachable result.shots }
-    ensures overlong_stays { session.overlong ≡ true → result.shots ≡ session.shots }
-    ensures line_answered { session.overlong ≡ false → result.written ≡ true → result.shots ≡ (line_reply result.lines line.now (line_of line.now) session.shots).shots }
-{
-    let shots = session.shots;
-    // no script has so many lines that the number comes round
-    let lines = session.lines.wrapping_add(1);
-    if session.overlong {
-        return answer_fault(writer, shots, lines, Fault::TooLong, output);
-    }
-    let read = script::read_line(line);
-    match read {
-        ScriptLine::Blank => Session {
-            shots,
-            lines,
+impl<W: Write> Replay<W> {
+    fn new(writer: W) -> Replay<W> {
+        Replay {
+            writer,
+            output: [0; answers::TEXT_LIMIT],
+            shots: Shots::new(),
+            lines: 0,
             overlong: false,
-            written: true,
-        },
-        ScriptLine::Calls(times, command) => {
-            make_calls(writer, shots, lines, times, command, line, output)
         }
-        ScriptLine::NoCall(fault) => answer_fault(writer, shots, lines, fault, output),
+    }
+
+    // Makes a line's calls, one after the other.
+    fn make_calls(&mut self, calls: Calls, line: &[u8]) -> Result<(), Failure>
+        requires { HasCall line.now calls.command }
+        ensures { OnOk result (self.new.shots ≡ (replies_to calls.times line.now calls.command self.old.shots).shots) }
+    {
+        for _ in 0..calls.times {
+            let size = self.shots.answer(calls.command, line, &mut self.output);
+            write_answer(&mut self.writer, &self.output[..size])?;
+        }
+        Ok(())
+    }
+
+    // Answers that the line that ended last is no call.
+    fn answer_fault(&mut self, fault: Fault) -> Result<(), Failure>
+        ensures { self.new.shots ≡ self.old.shots }
+    {
+        let size = answers::write_fault(fault, self.lines, &mut self.output);
+        write_answer(&mut self.writer, &self.output[..size])
+    }
+
+    // Answers a line; of one that is too long, the bytes at hand are its last.
+    fn answer_line(&mut self, line: &[u8]) -> Result<(), Failure>
+        ensures overlong_stays { self.old.overlong ≡ true → self.new.shots ≡ self.old.shots }
+        ensures line_answered { self.old.overlong ≡ false → OnOk result (self.new.shots ≡ (line_reply self.new.lines line.now (line_of line.now) self.old.shots).shots) }
+    {
+        // no script has so many lines that the number comes round
+        self.lines = self.lines.wrapping_add(1);
+        if self.overlong {
+            self.overlong = false;
+            return self.answer_fault(Fault::TooLong);
+        }
+        match script::read_line(line) {
+            Ok(None) => Ok(()),
+            Ok(Some(calls)) => self.make_calls(calls, line),
+            Err(fault) => self.answer_fault(fault),
+        }
+    }
+
+    // Answers the lines that end within the bytes at hand, and hands back the place after the last line feed.
+    fn answer_lines(&mut self, bytes: &[u8]) -> Result<usize, Failure>
+        ensures { IfOk result (λ start. start ≤ length bytes.now) }
+    {
+        let mut start = 0;
+        // not a `for`: each turn begins after the line that the one before has found
+        loop {
+            let end = scanning::run_end(Class::Line, bytes, start);
+            if bytes.len() <= end {
+                return Ok(start);
+            }
+            self.answer_line(&bytes[start..end])?;
+            start = end + 1;
+        }
+    }
+
+    // The script has ended: answers what is left of it, a line without its line feed.
+    fn finish(&mut self, rest: &[u8]) -> Result<(), Failure> {
+        if rest.is_empty() && !self.overlong {
+            return Ok(());
+        }
+        self.answer_line(rest)
+    }
+
+    // Keeps the line that has not ended, after the others have been answered, and hands back how many bytes of it are held.
+    fn keep_rest(&mut self, buffer: &mut [u8], start: usize, end: usize) -> usize
+        requires { (start ≤ end) × (end ≤ length buffer.old) × (0 < length buffer.old) }
+        ensures shots_stay { self.new.shots ≡ self.old.shots }
+        ensures held_in_bounds { result < length buffer.old }
+    {
+        buffer.copy_within(start..end, 0);
+        let held = end - start;
+        if held < buffer.len() {
+            return held;
+        }
+        self.overlong = true;
+        0
+    }
+
+    // Reads what there is to read, and answers the lines that it ends. Hands back how many bytes of the line at hand are then held, or
+    // nothing where the script has ended.
+    fn read_and_answer(
+        &mut self,
+        reader: &mut impl Read,
+        // a slice: the length of an array would have to stand in the invariant of `run` as well
+        buffer: &mut [u8],
+        held: usize,
+    ) -> Result<Option<usize>, Failure>
+        requires { held < length buffer.old }
+        ensures { IfOk result (λ state. IfSome state (λ left. left < length buffer.old)) }
+    {
+        let more = reader
+            .read(&mut buffer[held..])
+            .map_err(|_| Failure::Reading)?;
+        if more == 0 {
+            self.finish(&buffer[..held])?;
+            return Ok(None);
+        }
+        let end = held + more;
+        let start = self.answer_lines(&buffer[..end])?;
+        Ok(Some(self.keep_rest(buffer, start, end)))
     }
 }
 
-// Answers the lines that end within the bytes at hand.
-fn answer_lines(
-    writer: &mut impl Write,
-    session: Session,
-    bytes: &[u8],
-    output: &mut [u8],
-) -> Progress
-    requires all_reachable { AllReachable session.shots }
-    requires text_limit_in_bounds { text_limit ≤ length output.old }
-    ensures leaves_reachable { AllReachable result.session.shots }
-    ensures start_in_bounds { result.start ≤ length bytes.now }
-{
-    let mut now = session;
-    let mut start: usize = 0;
-    while now.written {
-        let end = scanning::run_end(Class::Line, bytes, start);
-        if bytes.len() <= end {
-            return Progress {
-                session: now,
-                start,
-            };
+// Answers the script, a line at a time.
+fn run(rt: &HostRuntime) -> Result<(), Failure> {
+    let mut reader = rt.stdin();
+    let mut replay = Replay::new(rt.stdout());
+    let mut buffer = [0u8; ROOM];
+    let mut held = 0;
+    // a proved loop has to end, and nothing says that a script does
+    for _ in 0..u64::MAX {
+        match replay.read_and_answer(&mut reader, &mut buffer, held)? {
+            Some(left) => held = left,
+            None => return Ok(()),
         }
-        now = answer_line(writer, now, &bytes[start..end], output);
-        start = end + 1;
     }
-    Progress {
-        session: now,
-        start,
-    }
-}
-
-// Moves the bytes from `start` up to `end` to the front.
-fn move_to_front(bytes: &mut [u8], start: usize, end: usize)
-    requires { (start ≤ end) × (end ≤ length bytes.old) }
-{
-    let count = end - start;
-    let mut i: usize = 0;
-    while i < count {
-        bytes[i] = bytes[start + i];
-        i += 1;
-    }
+    Ok(())
 }
 
 // Says on standard error why the program ends early: its exit status stays 0.
-fn report(rt: &impl Eprint, text: &str) {
-    let _ = eprintln!(rt; "replay: {text}");
-}
-
-// The script has ended: answers what is left of it, a line without its line feed.
-fn finish(
-    rt: &impl Eprint,
-    writer: &mut impl Write,
-    session: Session,
-    rest: &[u8],
-    output: &mut [u8],
-)
-    requires all_reachable { AllReachable session.shots }
-    requires text_limit_in_bounds { text_limit ≤ length output.old }
-{
-    if rest.len() == 0 && !session.overlong {
-        return;
-    }
-    let last = answer_line(writer, session, rest, output);
-    if !last.written {
-        report(rt, "the answers could not be written");
-    }
-}
-
-// Keeps the line that has not ended, after the others have been answered.
-fn keep_rest(rt: &impl Eprint, progress: Progress, end: usize, buffer: &mut [u8]) -> State
-    requires all_reachable { AllReachable progress.session.shots }
-    requires start_le_end { (progress.start ≤ end) × (end ≤ length buffer.old) × (0 < length buffer.old) }
-    ensures leaves_reachable { AllReachable result.session.shots }
-    ensures held_in_bounds { result.held < length buffer.old }
-{
-    let session = progress.session;
-    let start = progress.start;
-    if !session.written {
-        report(rt, "the answers could not be written");
-        return State {
-            session,
-            held: 0,
-            goes_on: false,
-        };
-    }
-    move_to_front(buffer, start, end);
-    let held = end - start;
-    if held < buffer.len() {
-        return State {
-            session,
-            held,
-            goes_on: true,
-        };
-    }
-    let shots = session.shots;
-    State {
-        session: Session {
-            shots,
-            lines: session.lines,
-            overlong: true,
-            written: true,
-        },
-        held: 0,
-        goes_on: true,
-    }
-}
-
-// Reads what there is to read into the room that is left, and hands back where that ends: at the end of the input, where it began.
-fn read_more(reader: &mut impl Read, buffer: &mut [u8], held: usize) -> Arrived
-    requires { held < length buffer.old }
-    ensures { (held ≤ result.end) × (result.end ≤ length buffer.old) }
-{
-    match reader.read(&mut buffer[held..]) {
-        Ok(more) => Arrived {
-            end: held + more,
-            failed: false,
-        },
-        Err(_) => Arrived {
-            end: held,
-            failed: true,
-        },
-    }
-}
-
-// Reads what there is to read, and answers the lines that it ends.
-fn read_and_answer(
-    rt: &impl Eprint,
-    reader: &mut impl Read,
-    writer: &mut impl Write,
-    state: State,
-    buffer: &mut [u8],
-    output: &mut [u8],
-) -> State
-    requires all_reachable { AllReachable state.session.shots }
-    requires held_in_bounds { state.held < length buffer.old }
-    requires text_limit_in_bounds { text_limit ≤ length output.old }
-    ensures leaves_reachable { AllReachable result.session.shots }
-    ensures leaves_held_in_bounds { result.held < length buffer.old }
-{
-    let session = state.session;
-    let held = state.held;
-    let arrived = read_more(reader, buffer, held);
-    if arrived.failed {
-        report(rt, "the script could not be read");
-        return State {
-            session,
-            held: 0,
-            goes_on: false,
-        };
-    }
-    let end = arrived.end;
-    if end == held {
-        finish(rt, writer, session, &buffer[..held], output);
-        return State {
-            session,
-            held: 0,
-            goes_on: false,
-        };
-    }
-    let progress = answer_lines(writer, session, &buffer[..end], output);
-    keep_rest(rt, progress, end, buffer)
-}
-
 fn main(rt: HostRuntime) {
-    let mut reader = rt.stdin();
-    let mut writer = rt.stdout();
-    let mut buffer = [0u8; ROOM];
-    let mut output = [0u8; answers::TEXT_LIMIT];
-    let mut state = State {
-        session: Session {
-            shots: interpreter::new_shots(),
-            lines: 0,
-            overlong: false,
-            written: true,
-        },
-        held: 0,
-        goes_on: true,
-    };
-    // a proved loop has to end, and nothing says that a script does
-    for _ in 0..u64::MAX {
-        state = read_and_answer(
-            &rt,
-            &mut reader,
-            &mut writer,
-            state,
-            &mut buffer,
-            &mut output,
-        );
-        if !state.goes_on {
-            return;
-        }
+    if let Err(failure) = run(&rt) {
+        let _ = eprintln!(rt; "replay: {failure}");
     }
 }

@@ -11,172 +11,142 @@
 // without a pixel, and so not fixed (6). A wrong head and a strip that is too long are told on standard error, and nothing else is written.
 #![tactic(auto)]
 
-ghost use Rattle.std.specs.Prelude.{◌≡◌, ◌+◌, ◌*◌, ◌≤◌, length};
+ghost use Rattle.std.specs.Prelude.{◌≡◌, List, ℕ, ◌<◌, ◌≤◌, length, MatchResult};
+ghost use Rattle.tables.specs.Table.{at};
 ghost use Rattle.dial.specs.Dial.{IsExactly};
 ghost use Rattle.shot.specs.Shot.{coloured};
-ghost use Rattle.shot.specs.Reachable.{Reachable};
-ghost use Rattle.rounds.specs.Inner.{Names, own_shot, ColouredByHead};
+ghost use Rattle.rounds.specs.Inner.{IsHead, own_shot, ColouredByHead};
 
 use dial::Dial;
 use shot::{Answer, Shot};
 use std::io::Read;
+use std::{fmt, io};
 
 // The bytes of the longest strip.
 const STRIP_LIMIT: usize = 393216;
 
-// A byte as a number of a method.
-fn wide(byte: u8) -> u32
-    ensures { result ≡ byte }
-{
-    byte as u32
+// Why nothing is coloured, or not all is written.
+#[derive(Clone, Copy, Debug, PartialEq, Eq)]
+enum Failure {
+    NoHead,
+    StripTooLong,
+    NotWritten,
 }
 
-// The number that two bytes stand for, the lower first.
-fn two_bytes(low: u8, high: u8) -> u16
-    ensures { result ≡ low + 256 * high }
-{
-    (low as u16) + 256 * (high as u16)
-}
-
-// The number that four bytes stand for, the lowest first.
-fn four_bytes(first: u8, second: u8, third: u8, fourth: u8) -> u32
-    ensures { result ≡ first + 256 * second + 65536 * third + 16777216 * fourth }
-{
-    (first as u32) + 256 * (second as u32) + 65536 * (third as u32) + 16777216 * (fourth as u32)
+impl fmt::Display for Failure {
+    fn fmt<W: fmt::Write>(&self, f: &mut fmt::Formatter<W>) -> fmt::Result {
+        match self {
+            Failure::NoHead => write!(f, "this is no head"),
+            Failure::StripTooLong => write!(f, "the strip is too long"),
+            Failure::NotWritten => write!(f, "the output could not be written"),
+        }
+    }
 }
 
 // k / 256. Neither the cast nor the division rounds.
 fn amount_of(k: u16) -> f32
     ensures { IsExactly result k 256 }
 {
-    (k as f32) / 256.0
+    f32::from(k) / 256.0
 }
 
 // v as a float, which does not round either.
+#[tactic(auto, using(crate::proofs::Floats::whole_exactly))]
 fn held_of(v: u16) -> f32
     ensures { IsExactly result v 1 }
 {
-    v as f32
+    f32::from(v)
 }
 
-// The command that the head names. (`main` has seen that there is one.)
-fn dial_of(kind: u8, number: u16) -> Dial
-    ensures { Names kind number result }
-{
-    if kind == 1 {
-        return Dial::Mix(amount_of(number));
+// What a head asks for: the command of the dial, the method, and how many times more the strip is coloured.
+#[derive(Clone, Copy)]
+struct Head {
+    dial: Dial,
+    method: u32,
+    more: u32,
+}
+
+impl TryFrom<[u8; 8]> for Head {
+    type Error = Failure;
+
+    ghost try_from_gives = { λ bytes read. MatchResult read (IsHead bytes) (λ _. 2 < at bytes 0) };
+
+    fn try_from(bytes: [u8; 8]) -> Result<Head, Failure> {
+        let [kind, low, high, method, a, b, c, d] = bytes;
+        let number = u16::from_le_bytes([low, high]);
+        let dial = match kind {
+            0 => Dial::Off,
+            1 => Dial::Mix(amount_of(number)),
+            2 => Dial::Hold(held_of(number)),
+            _ => return Err(Failure::NoHead),
+        };
+        Ok(Head {
+            dial,
+            method: u32::from(method),
+            more: u32::from_le_bytes([a, b, c, d]),
+        })
     }
-    if kind == 2 {
-        return Dial::Hold(held_of(number));
-    }
-    Dial::Off
 }
 
 // The strip as a shot of its own, fixed by choice 1.
 fn own_shot(strip: &[u8]) -> Shot
-    ensures value { result ≡ own_shot strip.now }
-    ensures reachable { Reachable result }
+    ensures { result ≡ own_shot strip.now }
 {
-    let opened = Shot::open();
-    let measured = opened.measure(strip);
-    let shot = measured.shot;
-    let fixed = shot.fix(1);
-    fixed.shot
+    Shot::open().measure(strip).shot.fix(1).shot
 }
 
-// Colours the source into the destination, and then so many times more. Each time writes the same bytes, so what it leaves is what one
-// colouring leaves.
-fn colour_rounds(
-    shot: Shot,
-    method: u32,
-    dial: Dial,
-    more: u32,
-    source: &[u8],
-    destination: &mut [u8],
-) -> Answer
-    requires { Reachable shot }
-    ensures { coloured shot (record { method = method; dial = dial; source = source.now; destination = destination.old }) ≡ record { answer = result; bytes = destination.new } }
+// Colours the strip by its own shot, as the head asks for, and then so many times more. Each time writes the same bytes, so what it leaves
+// is what one colouring leaves, whatever bytes the head was read from.
+fn colour_by_head(head: Head, strip: &[u8], destination: &mut [u8]) -> Answer
+    ensures { (bytes : List ℕ) → IsHead bytes head → ColouredByHead bytes strip.now destination.old (record { answer = result; bytes = destination.new }) }
 {
-    let mut answer = shot.colour(method, dial, source, destination);
-    let mut left = more;
-    while 0 < left {
+    let mut answer = own_shot(strip).colour(head.method, head.dial, strip, destination);
+    for _ in 0..head.more {
         let same = answer.shot;
-        answer = same.colour(method, dial, source, destination);
-        left -= 1;
+        answer = same.colour(head.method, head.dial, strip, destination);
     }
     answer
 }
 
-// What the head asks for, on a strip and a destination of its length.
-fn colour_by_head(head: &[u8; 8], strip: &[u8], destination: &mut [u8]) -> Answer
-    ensures { ColouredByHead head.now strip.now destination.old (record { answer = result; bytes = destination.new }) }
-{
-    let dial = dial_of(head[0], two_bytes(head[1], head[2]));
-    let method = wide(head[3]);
-    let more = four_bytes(head[4], head[5], head[6], head[7]);
-    let shot = own_shot(strip);
-    colour_rounds(shot, method, dial, more, strip, destination)
-}
-
-// The exit status stays 0, so the program says what went wrong.
-fn report(rt: &impl Eprint, text: &str) {
-    let _ = eprintln!(rt; "rounds: {text}");
-}
-
 // The number on a line, and then the bytes.
-fn write_answer(rt: &(impl Print + Eprint), number: u32, bytes: &[u8]) {
-    if println!(rt; "{number}").is_err() || rt.write_all(bytes).is_err() {
-        report(rt, "the output could not be written");
-    }
+fn write_answer(rt: &impl Print, number: u32, bytes: &[u8]) -> io::Result<()> {
+    println!(rt; "{number}")?;
+    rt.write_all(bytes)
 }
 
-// Colours the strip, and writes what comes of it.
-fn answer_strip(rt: &(impl Print + Eprint), head: &[u8; 8], strip: &[u8], destination: &mut [u8]) {
-    let answer = colour_by_head(head, strip, destination);
-    write_answer(rt, answer.number, destination);
-}
-
-// Room for a strip. Its contract gives only the length, so that no proof has so many zeros to look at.
+// Room for a strip, since nothing allocates. Its contract gives only the length, so that no proof has so many zeros to look at.
 fn strip_buffer() -> [u8; STRIP_LIMIT]
     ensures { 393216 ≡ length result }
 {
     [0; STRIP_LIMIT]
 }
 
-// Reads until buf is full, the input ends or a read fails, and hands back how many bytes it put at the start of buf.
-fn read_full(reader: &mut impl Read, buf: &mut [u8]) -> usize
-    ensures { result ≤ length buf.new }
-{
-    let mut done = 0;
-    while done < buf.len() {
-        let n = reader.read(&mut buf[done..]).unwrap_or(0);
-        if n == 0 {
-            break;
-        }
-        done += n;
-    }
-    done
-}
-
 // Whether the input has ended.
 fn at_end(reader: &mut impl Read) -> bool {
-    let mut more = [0u8; 1];
-    read_full(reader, &mut more) == 0
+    reading::read_full(reader, &mut [0]) == 0
 }
 
-fn main(rt: HostRuntime) {
+// Colours the strip that the input brings, and writes what comes of it.
+fn run(rt: &HostRuntime) -> Result<(), Failure> {
     let mut reader = rt.stdin();
     let mut head = [0u8; 8];
+    if reading::read_full(&mut reader, &mut head) < head.len() {
+        return Err(Failure::NoHead);
+    }
+    let head = Head::try_from(head)?;
     let mut strip = strip_buffer();
-    let mut destination = strip_buffer();
-    if read_full(&mut reader, &mut head) < 8 || 2 < head[0] {
-        report(&rt, "this is no head");
-        return;
-    }
-    let size = read_full(&mut reader, &mut strip);
+    let size = reading::read_full(&mut reader, &mut strip);
     if !at_end(&mut reader) {
-        report(&rt, "the strip is too long");
-        return;
+        return Err(Failure::StripTooLong);
     }
-    answer_strip(&rt, &head, &strip[..size], &mut destination[..size]);
+    let mut destination = strip_buffer();
+    let answer = colour_by_head(head, &strip[..size], &mut destination[..size]);
+    write_answer(rt, answer.number, &destination[..size]).map_err(|_| Failure::NotWritten)
+}
+
+// The exit status stays 0, so the program says what went wrong.
+fn main(rt: HostRuntime) {
+    if let Err(failure) = run(&rt) {
+        let _ = eprintln!(rt; "rounds: {failure}");
+    }
 }

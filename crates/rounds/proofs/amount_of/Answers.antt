@@ -5,4 +5,4 @@ use Rattle.rounds.proofs.amount_of.Goals as goal
 
 pub returns : goal.returns
 unfolding of_bits
-returns c = part_exactly c.args.k c.ranges.k.fits
+returns c = rw c.from.ensures (part_exactly c.args.k c.ranges.k.fits)

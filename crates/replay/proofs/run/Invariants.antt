@@ -1,0 +1,7 @@
+-- The invariant of `replay::run`.
+use Rattle.std.proofs.Common.{◌≤◌}
+use Rattle.script.specs.Script.{line_limit}
+use Rattle.replay.proofs.run.Given as goal
+
+abbrev pub invariant-loop : goal.invariant-loop
+invariant-loop l = l.held ≤ line_limit

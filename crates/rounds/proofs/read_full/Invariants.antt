@@ -1,9 +1,0 @@
--- The measure and the invariant of `rounds::read_full`: what was read lies within the buffer.
-use Rattle.std.proofs.Common.{◌-◌, ◌≤◌, length}
-use Rattle.rounds.proofs.read_full.Given as goal
-
-abbrev pub invariant-loop-done : goal.invariant-loop-done
-invariant-loop-done g l = l.done ≤ length l.buf
-
-abbrev pub decreases-loop-done : goal.decreases-loop-done
-decreases-loop-done g l = length l.initial.buf - l.done

@@ -6,7 +6,8 @@ A claim is a definition, record or data type of specs/ that has no parameters an
     a data type, of at least one constructor, each of which takes plain types;
     a definition that is a plain type.
 
-Plain types are ℕ, Bool, Char, String, what src/ declares, the plain data of specs/, and lists, options and pairs of plain types.
+Plain types are ℕ, Bool, Char, String, what src/ declares, the plain data of specs/, and lists, options, results and pairs of plain
+types.
 What is not understood here is a claim. The comment directly above a claim ends in "Proved: proofs/FILE, `proof`."; where it is the
 only one of its file, the file's first comment may. That file must bring the claim in from its own file, must not define it anew,
 and must declare `pub proof : CLAIM`; the crate's check then proves it.
@@ -29,6 +30,7 @@ BUILT_IN = {
     ("Rattle.std.specs.Prelude", "Bool"): 0,
     ("Rattle.std.specs.Prelude", "List"): 1,
     ("Rattle.std.specs.Prelude", "Option"): 1,
+    ("Rattle.std.specs.Prelude", "Result"): 2,
     ("Rattle.std.proofs.Math.Option", "Option"): 1,
     ("Prim.Native.Char", "Char"): 0,
     ("Prim.Native.String", "String"): 0,
@@ -298,6 +300,8 @@ SNIPPETS = (
     ("pub data A : Type 0 where\n  red green blue : A\n", set()),
     ("pub record A : Type 0 where\n  pub b : List B\n\npub data B : Type 0 where\n  a : B\n  b : (n : ℕ) → List B → B\n", set()),
     ("abbrev pub A : Type 0\nA = List (ℕ × Part)\n", set()),
+    ("use Rattle.std.specs.Prelude.{Result}\n\nabbrev pub A : Type 0\nA = Result Part ℕ\n", set()),
+    ("use Rattle.std.specs.Prelude.{Result}\n\nabbrev pub A : Type 0\nA = Result Part\n", {"A"}),
     ("abbrev pub A : Type 0\nA =\n    ℕ\n\npub record B : Type 0 where\n  pub a : A\n", set()),
 )
 UNREAD = (

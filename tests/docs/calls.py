@@ -22,7 +22,7 @@ CHECKS = {
     "move_one": [("pixel/specs/MoveOne.antt", "move_checks")],
     "cube_balance_curve": [("host/specs/Host.antt", "curve_checks"), ("strip_curve/specs/OneStrip.antt", "strip_checks")],
     "cube_balance_colour": [("host/specs/Host.antt", "colour_checks")],
-    "balance": [("netpbm/specs/Header.antt", "number_of"), ("still/specs/Still.antt", "sample_checks")],
+    "balance": [("netpbm/specs/Header.antt", "Reading"), ("still/specs/Still.antt", "sample_checks")],
 }
 ORDINALS = ["1st", "2nd", "3rd", "4th", "5th", "6th"]
 # limits: the file and the definition, and the pages that give it in figures
@@ -42,12 +42,26 @@ def clauses(text, name):
 
 def checked(text, name):
     """The numbers by which a definition refuses, in its order."""
-    body = clauses(text, name)
-    return [int(number) for number in re.findall(r"refuses (\d+)|= ([1-9]\d*)$", body, re.M) for number in number if number]
+    return [int(number) for number in re.findall(r"refuses (\d+)", clauses(text, name))]
+
+
+def refusing(text, name, numbers):
+    """The numbers of the refusals that values of this type stand for, in the order in which the file names them."""
+    return [numbers[refusal] for refusal in re.findall(rf"^abbrev pub \w+ : {name}\n\w+ = Err (\w+)$", text, re.M)]
+
+
+def numbers_of():
+    """The number of each refusal."""
+    return {name: int(number) for name, number in re.findall(r"^refusal_number (\w+) = (\d+)$", read(CRATES / "refusal/specs/Numbers.antt"), re.M)}
 
 
 def order_of(call):
-    return [number for file, name in CHECKS[call] for number in checked(read(CRATES / file), name)]
+    numbers = numbers_of()
+    found = []
+    for file, name in CHECKS[call]:
+        text = read(CRATES / file)
+        found += refusing(text, name, numbers) if name[0].isupper() else checked(text, name)
+    return found
 
 
 def table_orders(numbers):
@@ -71,10 +85,10 @@ def limits():
 
 
 def named():
-    """The numbers of the crate `refusal`: name, number, and what its comment says, with the limits in figures."""
+    """The refusals of the crate `refusal`: number, name, and what the comment says, with the limits in figures."""
     values = limits()
-    for words, name, number in re.findall(r"^// (.+)\.\npub const (\w+): u32 = (\d+);$", read(CRATES / "refusal/src/lib.rt"), re.M):
-        limit = values["area_limit" if name == "AREA_OUT_OF_RANGE" else "pixel_limit"]
+    for words, name, number in re.findall(r"^    // (.+)\.\n    ([A-Z]\w*) = (\d+),$", read(CRATES / "refusal/src/lib.rt"), re.M):
+        limit = values["area_limit" if name == "AreaOutOfRange" else "pixel_limit"]
         yield number, name, words[0].lower() + words[1:].replace("the limit", f"{limit:,}")
 
 
@@ -82,8 +96,8 @@ def number_faults():
     """What is wrong with the table of numbers."""
     numbers = table(CALLS, ["number", "name"])
     due = list(named())
-    if len(due) != read(CRATES / "refusal/src/lib.rt").count("pub const ") or not due:
-        yield "crates/refusal/src/lib.rt: a number without a comment of one sentence"
+    if len(due) != len(re.findall(r" = \d+,$", read(CRATES / "refusal/src/lib.rt"), re.M)) or not due:
+        yield "crates/refusal/src/lib.rt: a refusal without a comment of one sentence"
     for row, wanted in zip(numbers.rows, due):
         if (row[0], row[1].strip("`"), row[2]) != wanted:
             yield f"{CALLS}: {row[:3]}, and the crate refusal has {wanted}"
@@ -156,8 +170,8 @@ def selftest():
     text = "abbrev pub a_checks : Bool → List Check\na_checks x = x refuses 4 ∷ not x refuses 10 ∷ []\n\nb = y refuses 9\n"
     if checked(text, "a_checks") != [4, 10]:
         sys.exit(f"calls.py reads {checked(text, 'a_checks')}")
-    if checked("pub n : R → ℕ\nn A = 0\nn B = 12\nn C = 13\n", "n") != [12, 13]:
-        sys.exit("calls.py does not read the numbers of cases")
+    if refusing("abbrev pub a : R\na = Err B\n\nabbrev pub c : Q\nc = Err D\n\nabbrev pub e : R\ne = Err D\n", "R", {"B": 12, "D": 13}) != [12, 13]:
+        sys.exit("calls.py does not read the refusals of a type's values")
     if checked(text, "c_checks"):
         sys.exit("calls.py reads a definition that is not there")
 

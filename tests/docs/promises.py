@@ -18,8 +18,12 @@ from pages import DOCS, SPAN, listed, read, report, spans, table  # noqa: E402
 PAGE = DOCS / "PROMISES.md"
 CRATES = pathlib.Path("crates")
 PUBLIC = re.compile(r'^ *pub (?:extern "C" )?fn (\w+)', re.M)
-FUNCTION = re.compile(r'^ *pub (?:extern "C" )?fn (\w+)\(([^)]*)\)[^{]*?((?:\n\s+(?:requires|ensures) .*)*)\n\s*\{', re.M)
+FUNCTION = re.compile(r'^ *pub (?:extern "C" )?fn (\w+)(?:<[^>]*>)?\(([^)]*)\)[^{]*?((?:\n\s+(?:requires|ensures) .*)*)\n\s*\{', re.M)
 CALL = re.compile(r"(?:(\w+)(?:::|\.))(\w+)\(([^)]*)\)")
+CONVERSION = re.compile(r"^impl (?:Try)?From<([^>]+)> for ([\w\[\]; ]+) \{\n(?:    type Error = \w+;\n\n)?    ghost (?:try_)?from_gives = \{ (.*) \};$", re.M)
+# what a page calls a value whose methods it names, or its type, and the crate of these; in the crate's contracts it is `self`
+VALUES = {"shot": "shot", "writer": "text", "pixel": "pixel", "line": "lines", "header": "netpbm", "word": "words", "shots": "interpreter"}
+TYPES = {"Shot": "shot", "Writer": "text", "Shots": "interpreter"}
 
 
 def crate_order():
@@ -65,22 +69,25 @@ class Contract(NamedTuple):
     ensures: list
 
 
-def body(text):
-    """A contract's statement as the page writes it: what a run held at the start by its name, and a shot for `self`."""
+def body(text, value="shot"):
+    """A contract's statement as the page writes it: what a run held at the start by its name, and the value's name for `self`."""
     text = re.sub(r"^(?:\w+ )?\{ | \}$", "", text.strip())
     text = re.sub(r"\b(\w+)(?:\.entry)?\.(?:now|old)\b", r"\1", text)
-    return re.sub(r"\bself\b", "shot", text)
+    return re.sub(r"\bself\b", value, text)
 
 
 def functions():
     """Every public function by crate and name, and those whose contract is not read."""
     found, unread = {}, []
+    values = {crate: value for value, crate in VALUES.items()}
     for path in sorted(CRATES.glob("*/src/**/*.rt")):
         text = path.read_text(encoding="utf-8")
+        value = values.get(path.parts[1], "self")
         for name, parameters, contract in FUNCTION.findall(text):
-            names = [part.split(":")[0].strip() for part in parameters.split(",") if part.strip()]
-            requires, ensures = ([body(one) for one in re.findall(rf"{word} (.*)", contract)] for word in ("requires", "ensures"))
-            found[path.parts[1], name] = Contract([part for part in names if part != "self"], requires, ensures)
+            # a comma inside a type's arguments parts no parameters
+            names = [part.split(":")[0].strip() for part in re.sub(r"<[^<>]*>", "", parameters).split(",") if part.strip()]
+            requires, ensures = ([body(one, value) for one in re.findall(rf"{word} (.*)", contract)] for word in ("requires", "ensures"))
+            found[path.parts[1], name] = Contract([part for part in names if part.split()[-1].strip("&") != "self"], requires, ensures)
         named = [name for crate, name in found if crate == path.parts[1]]
         unread += [f"{path}: {name}" for name in PUBLIC.findall(text) if name not in named]
     return found, unread
@@ -92,7 +99,7 @@ def called(span):
     if not found:
         return None
     owner, name, arguments = found.groups()
-    crate = "shot" if owner in {"Shot", "shot"} else owner
+    crate = TYPES.get(owner) or (VALUES.get(owner, owner) if span.startswith(owner + ".") else owner)
     return (crate, name), [part.strip() for part in arguments.split(",") if part.strip()]
 
 
@@ -112,18 +119,19 @@ def cites(span, statement):
     return re.search(rf"(?<![\w'.]){re.escape(span)}(?![\w'])", statement) is not None
 
 
-def says(span, statement):
+def says(span, more, statement):
     """Whether a statement is that the result, or the record of result and lent bytes, is equal to a definition. A `call` or `request` is
-    the record of a call's arguments."""
+    the record of a call's arguments. What a definition makes of the result is equal only where the page names that definition too."""
     head = re.sub(r"\\ (?:call|request)$", r"\\ \\(record \\{[^}]*\\}\\)", re.escape(span))
-    return re.fullmatch(rf"result ≡ {head}|{head} ≡ record \{{ \w+ = result; \w+ = \w+\.new \}}", statement) is not None
+    found = re.fullmatch(rf"(?:(\w+) )?result ≡ {head}|{head} ≡ record \{{ \w+ = result; \w+ = \w+\.new \}}", statement)
+    return found is not None and (found.group(1) is None or found.group(1) in more)
 
 
 def equality_faults(row, calls, known):
     """What is wrong with a row that gives an outside call's contract: it is one equality, and the premise is said word for word."""
     (key, _), *more = calls
     spans_of = [[renamed(span, calls, known) for _, span in SPAN.findall(cell)] for cell in row[1:]]
-    if more or len(known[key].ensures) != 1 or not spans_of[0] or not says(spans_of[0][0], known[key].ensures[0]):
+    if more or len(known[key].ensures) != 1 or not spans_of[0] or not says(spans_of[0][0], spans_of[0][1:], known[key].ensures[0]):
         yield f"{PAGE}: {row[0]} is not equal to {row[1]}"
     if spans_of[1] != known[key].requires:
         yield f"{PAGE}: {row[0]} requires {known[key].requires}, and not {row[2]}"
@@ -174,6 +182,22 @@ def contract_faults():
         yield from row_faults(row, known, other_faults)
 
 
+def conversion_faults():
+    """What is wrong with the table of conversions: it has each that gives something by a definition, with that definition."""
+    due = {}
+    for path in sorted(CRATES.glob("*/src/lib.rt")):
+        for _, made, gives in CONVERSION.findall(path.read_text(encoding="utf-8")):
+            due[made] = gives
+    rows = [(row[0], [span for _, span in SPAN.findall(row[1])]) for row in table(PAGE, ["conversion", "gives"]).rows]
+    named = [re.fullmatch(r"`<?([\w\[\]; ]+)>?::(?:try_)?from\(\w+\)`", cell) for cell, _ in rows]
+    if None in named or sorted(found.group(1) for found in named) != sorted(due):
+        yield f"{PAGE}: the conversions are {sorted(due)}"
+        return
+    for found, (cell, spans_of) in zip(named, rows):
+        if not spans_of or not all(cites(span, due[found.group(1)]) for span in spans_of):
+            yield f"{PAGE}: {cell} gives {due[found.group(1)]}"
+
+
 def fields():
     """The fields of every record of specs/."""
     found = {}
@@ -201,6 +225,8 @@ def selftest():
         ("host", "c"): Contract(["run"], [], [body("{ made (record { a = run.old }) ≡ record { n = result; b = run.new } }")]),
         ("host", "d"): Contract(["run"], [], [body("{ made (record { a = run.old }) ≡ record { n = result; b = run.old } }")]),
         ("a", "f"): Contract(["n"], [], ["result ≡ near n 2"]),
+        ("a", "g"): Contract(["n"], [], ["told result ≡ near n 2"]),
+        ("a", "h"): Contract(["n"], [], ["result.number ≡ near n 2"]),
     }
     for row, check, due in (
         (["`shot.fix(choice)`", "`fixed_with shot choice`", "`Reachable shot`"], equality_faults, 0),
@@ -209,6 +235,10 @@ def selftest():
         (["`shot.fix(method)`", "`fixed_with shot choice`", "`Reachable shot`"], equality_faults, 1),
         (["`shot.fix(choice)`", "`measured shot choice`", "`Reachable shot`"], equality_faults, 1),
         (["`shot.mend(choice)`", "`fixed_with shot choice`", "`Reachable shot`"], equality_faults, 1),
+        (["`a::g(n)`", "`near n 2`", ""], equality_faults, 1),
+        (["`a::g(n)`", "`near n 2`, by `asked`", ""], equality_faults, 1),
+        (["`a::g(n)`", "`near n 2`, by `told`", ""], equality_faults, 0),
+        (["`a::h(n)`", "`near n 2`", ""], equality_faults, 1),
         (["`shot.break(choice)`", "`fixed_with shot choice`", "`Reachable shot`"], equality_faults, 1),
         (["`host::c(run)`", "`made call`", ""], equality_faults, 0),
         (["`host::c(run)`", "`made run`", ""], equality_faults, 1),
@@ -224,7 +254,7 @@ def selftest():
 
 def main():
     selftest()
-    faults = [*claim_faults(), *contract_faults(), *field_faults()]
+    faults = [*claim_faults(), *contract_faults(), *conversion_faults(), *field_faults()]
     sys.exit(report("promises", f"{len(functions()[0])} contracts and {sum(map(bool, fields().values()))} records", faults))
 
 

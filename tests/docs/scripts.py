@@ -21,7 +21,7 @@ def first_words(rows):
 
 def word_faults(rows, specs):
     """Whether the table has the names of the calls, in their order, and then repeat."""
-    due = [*re.findall(r'"(\w+)" means', specs), *re.findall(r'word_in line word\) \(ascii "(\w+)"\)', specs)]
+    due = [*re.findall(r'"(\w+)" means', specs), *re.findall(r'word_in line \w+\) \(ascii "(\w+)"\)', specs)]
     return [] if first_words(rows) == due and len(due) > 1 else [f"{PAGE}: the lines begin with {first_words(rows)}, and specs/ have {due}"]
 
 

@@ -8,7 +8,7 @@ use Rattle.text.specs.Decimal.{decimal}
 use Rattle.text.specs.Text.{Wrote}
 use Rattle.text.specs.declared.Writer.{Writer}
 use Rattle.text.proofs.Decimal.{decimal_means}
-use Rattle.text.proofs.Runs.{wrote_all}
+use Rattle.text.proofs.Runs.{writes_length, writes_room, wrote_all}
 use Rattle.hexadecimal.specs.Hexadecimal.{encoded}
 use Rattle.hexadecimal.proofs.Hexadecimal.{length_encoded}
 use Rattle.answers.specs.Answers.{strip_text, text_limit, WritesAnswer}
@@ -33,3 +33,11 @@ pub ruleset sizes = (decimal_size, strip_size)
 pub answered : {text before after : List ℕ} {start now : Writer} → Wrote text start now → start.end ≡ 0 → start.run.now ≡ before → now.run.now ≡ after
     → now.end ≤ text_limit → WritesAnswer text before now.end after
 answered wrote none held left short = record { writes = wrote_all wrote none held left; short = short }
+
+-- For callers: an answer stays within an output that has room for every answer, and leaves its length.
+module _ {text before after : List ℕ} {size : ℕ} (room : text_limit ≤ length before) (wrote : WritesAnswer text before size after) where
+  pub answer_within : size ≤ length after
+  answer_within = omega (arith, room, writes_room wrote.writes 0 (omega (arith, room, wrote.short)))
+
+  pub answer_length : length after ≡ length before
+  answer_length = writes_length wrote.writes (omega (arith, room, wrote.short))

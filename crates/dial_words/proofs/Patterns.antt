@@ -1,13 +1,17 @@
 -- Laws of the patterns of floats: the one of `f32::NAN` stands for NaN, and each can be written.
-use mathlib.Core.Path.{◌≡◌, refl, ap, ◌∙◌}
+use mathlib.Core.Path.{◌≡◌, refl, sym, ap, ◌∙◌}
+use mathlib.Core.Bool.{true, false≢true}
+use mathlib.Core.List.{List}
 use Prim.Native.Nat.{ℕ, zero, suc, ◌^◌, ◌<◌}
 use native.Mathlib.Omega.{arith}
 use borrow.Author.Tests.{eq-eqb}
-use lib.Ieee.{nan, binary32, of_bits, to_bits}
+use lib.Ieee.{Float, nan, inf, fin, binary32, is_nan, of_bits, to_bits}
 use lib.Ieee.Bits.{of_bits-to_bits, to_bits-lt}
-use lib.ListN.{length}
+use lib.ListN.{length, take}
+use lib.Seq.{take-length}
 use Rattle.tables.specs.Table.{at}
-use Rattle.text.specs.Text.{ascii}
+use Rattle.text.specs.Text.{ascii, Writes}
+use Rattle.text.proofs.Runs.{writes_front, writes_length}
 use Rattle.scanning.proofs.Texts.{lengths_differ}
 use Rattle.hexadecimal.specs.Hexadecimal.{encoded}
 use Rattle.hexadecimal.proofs.Hexadecimal.{hexadecimal_means}
@@ -18,6 +22,19 @@ use Rattle.std.specs.Prelude.{Some}
 pub the_nan : of_bits binary32 2143289344 ≡ nan
 unfolding of_bits
 the_nan = refl
+
+-- NaN is one float
+the_one_nan : (x : Float) → is_nan x ≡ true → x ≡ nan
+unfolding is_nan
+the_one_nan nan is = refl
+the_one_nan (inf s) is = absurd (false≢true is)
+the_one_nan (fin s m e) is = absurd (false≢true is)
+
+-- a text as long as the run that it is written to is all that the run then holds
+pub writes_all : {end : ℕ} {text run output : List ℕ} → Writes 0 text run end output → length text ≡ length run → output ≡ text
+writes_all {end} {text} {run} {output} wrote same =
+    let all : length output ≡ end = omega (arith, same, wrote.ends, writes_length wrote (omega (arith, same, wrote.ends))) in
+    sym (take-length output) ∙ ap (λ (n : ℕ). take n output) all ∙ writes_front wrote
 
 -- the bytes of a pattern are bytes,
 bytes_small : (n : ℕ) → n < 2 ^ 32 → (i : ℕ) → at (pattern_bytes n) i < 256

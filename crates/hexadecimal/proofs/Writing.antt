@@ -6,11 +6,15 @@ use Rattle.std.specs.Simd.{first_chunks}
 use Rattle.tables.specs.Table.{at}
 use Rattle.text.specs.Text.{Writes, Wrote}
 use Rattle.text.specs.declared.Writer.{Writer}
-use Rattle.text.proofs.Runs.{writes_byte, wrote_none, wrote_more}
+use Rattle.text.proofs.Runs.{writes_length, writes_byte, wrote_none, wrote_more}
 use Rattle.hexadecimal.specs.Hexadecimal.{digit_value, digit_code, decoded, encoded}
 use Rattle.hexadecimal.proofs.Hexadecimal.{length_decoded, length_encoded, byte_at}
 
 module _ (digits : List ℕ) {run output : List ℕ} {i : ℕ} (wrote : Writes 0 (take i (decoded digits)) run i output) where
+  -- the run keeps its length
+  pub decoded_kept : length digits / 2 ≤ length run → length output ≡ length run
+  decoded_kept fits = writes_length wrote (omega (arith, fits, wrote.ends, length-take i (decoded digits), length_decoded digits))
+
   -- the byte of the next pair is stored
   pub decoded_more : {pairs : List (List ℕ)} → pairs ≡ first_chunks 2 (length digits / 2) digits → length digits / 2 ≤ length run
       → i < length digits / 2
@@ -23,6 +27,16 @@ module _ (digits : List ℕ) {run output : List ℕ} {i : ℕ} (wrote : Writes 0
   -- after the last pair all bytes are written
   pub decoded_end : i ≡ length digits / 2 → Writes 0 (decoded digits) run (length digits / 2) output
   decoded_end all = rw (take_all i (decoded digits) (omega (arith, length_decoded digits)), all) at wrote
+
+module _ (place : ℕ) (bytes : List ℕ) {run output : List ℕ} (i : ℕ) (fits : place + 2 * length bytes ≤ length run)
+    (wrote : Writes place (take (2 * i) (encoded bytes)) run (place + 2 * i) output) where
+  -- the place after the digits lies within the run
+  pub encoded_within : place + 2 * i ≤ length run
+  encoded_within = omega (arith, fits, wrote.ends, length-take (2 * i) (encoded bytes), length_encoded bytes)
+
+  -- which keeps its length
+  pub encoded_kept : length output ≡ length run
+  encoded_kept = writes_length wrote encoded_within
 
 -- the digits of one byte more
 encoded_push : (bytes : List ℕ) (byte : ℕ) → encoded (bytes ++ (byte ∷ [])) ≡ encoded bytes ++ (digit_code (byte / 16) ∷ digit_code (byte % 16) ∷ [])

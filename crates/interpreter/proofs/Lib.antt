@@ -1,3 +1,4 @@
 pub mod Premise
+pub mod Replies
 pub mod Lists
 pub mod Scripts

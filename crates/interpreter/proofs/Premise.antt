@@ -1,4 +1,5 @@
 -- The shots of a script, by their numbers.
+use mathlib.Core.Path.{sym, subst}
 use mathlib.Core.List.{List, [], ◌∷◌}
 use Prim.Native.Nat.{ℕ, zero, suc}
 use borrow.Table.Steps.{cases}
@@ -8,12 +9,12 @@ use Rattle.hexadecimal.proofs.Hexadecimal.{decoded_small}
 use Rattle.words.specs.Words.{word_in}
 use Rattle.script.specs.declared.Command.{Command}
 use Rattle.script.specs.declared.Command.TheVariants.{Open, Measure, Fix, Colour, Move}
-use Rattle.shot.specs.Reachable.{Reachable}
+use Rattle.shot.specs.Reachable.{Reachable, Reachable.by_opening}
 use Rattle.shot.specs.Shot.{opened}
 use Rattle.shot.specs.declared.Shot.{Shot}
 use Rattle.book.specs.Run.{WellFormed}
 use Rattle.book.proofs.Accuracy.{reachable_step}
-use Rattle.interpreter.specs.Interpreter.{place_of, with_shot, AllReachable, Request, Request.calling, Request.moving, request_in, reply_to, RepliesKeepPremise}
+use Rattle.interpreter.specs.Interpreter.{new_shots, place_of, with_shot, AllReachable, Request, Request.calling, Request.moving, request_in, reply_to, answer_to, LeavesReply, RepliesKeepPremise}
 use Rattle.interpreter.specs.declared.Shots.{Shots}
 
 -- what holds of the four places holds of every number's
@@ -54,3 +55,15 @@ reply_reachable shots (moving method pixel target) brings all = all
 
 pub replies_keep_premise : RepliesKeepPremise
 replies_keep_premise line shots command all = reply_reachable shots (request_in line command) (brings_bytes line command) all
+
+-- newly opened shots came from the calls
+pub new_reachable : AllReachable new_shots
+new_reachable = record { each = λ number. by_place number (λ (place : ℕ). Reachable (get_or new_shots.all place opened)) by_opening by_opening by_opening by_opening }
+
+-- For callers: so do the shots that an answer leaves.
+pub answered_reachable : (line : List ℕ) (command : Command) {before after : List ℕ} {shots left : Shots} {size : ℕ}
+    → AllReachable shots
+    → LeavesReply (answer_to line shots command) before left size after
+    → AllReachable left
+answered_reachable line command {shots = shots} all leaves =
+    subst AllReachable (sym leaves.shots) (replies_keep_premise line shots command all)

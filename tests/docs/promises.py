@@ -18,11 +18,12 @@ from pages import DOCS, SPAN, listed, read, report, spans, table  # noqa: E402
 PAGE = DOCS / "PROMISES.md"
 CRATES = pathlib.Path("crates")
 PUBLIC = re.compile(r'^ *pub (?:extern "C" )?fn (\w+)', re.M)
-FUNCTION = re.compile(r'^ *pub (?:extern "C" )?fn (\w+)(?:<[^>]*>)?\(([^)]*)\)[^{]*?((?:\n\s+(?:requires|ensures) .*)*)\n\s*\{', re.M)
+FUNCTION = re.compile(r'^ *pub (?:extern "C" )?fn (\w+)(?:<(?:->|[^>])*>)?\(([^)]*)\)[^{]*?((?:\n\s+(?:requires|ensures) .*)*)\n\s*\{', re.M)
+IMPL = re.compile(r"^impl(?:<[^>]*>)? (\w+)", re.M)
 CALL = re.compile(r"(?:(\w+)(?:::|\.))(\w+)\(([^)]*)\)")
 CONVERSION = re.compile(r"^impl (?:Try)?From<([^>]+)> for ([\w\[\]; ]+) \{\n(?:    type Error = \w+;\n\n)?    ghost (?:try_)?from_gives = \{ (.*) \};$", re.M)
 # what a page calls a value whose methods it names, or its type, and the crate of these; in the crate's contracts it is `self`
-VALUES = {"shot": "shot", "writer": "text", "pixel": "pixel", "line": "lines", "header": "netpbm", "word": "words", "shots": "interpreter"}
+VALUES = {"shot": "shot", "writer": "text", "pixel": "pixel", "line": "lines", "header": "netpbm", "word": "words", "found": "words", "shots": "interpreter"}
 TYPES = {"Shot": "shot", "Writer": "text", "Shots": "interpreter"}
 
 
@@ -76,14 +77,21 @@ def body(text, value="shot"):
     return re.sub(r"\bself\b", value, text)
 
 
+def value_at(crate, text):
+    """What the page calls the value whose methods stand after this text of the crate: where it has more than one, that of the last impl."""
+    values = [value for value, owner in VALUES.items() if owner == crate]
+    of_impl = [name.lower() for name in IMPL.findall(text) if name.lower() in values]
+    return of_impl[-1] if len(values) > 1 and of_impl else (values or ["self"])[0]
+
+
 def functions():
     """Every public function by crate and name, and those whose contract is not read."""
     found, unread = {}, []
-    values = {crate: value for value, crate in VALUES.items()}
     for path in sorted(CRATES.glob("*/src/**/*.rt")):
         text = path.read_text(encoding="utf-8")
-        value = values.get(path.parts[1], "self")
-        for name, parameters, contract in FUNCTION.findall(text):
+        for match in FUNCTION.finditer(text):
+            name, parameters, contract = match.groups()
+            value = value_at(path.parts[1], text[: match.start()])
             # a comma inside a type's arguments parts no parameters
             names = [part.split(":")[0].strip() for part in re.sub(r"<[^<>]*>", "", parameters).split(",") if part.strip()]
             requires, ensures = ([body(one, value) for one in re.findall(rf"{word} (.*)", contract)] for word in ("requires", "ensures"))
@@ -183,11 +191,13 @@ def contract_faults():
 
 
 def conversion_faults():
-    """What is wrong with the table of conversions: it has each that gives something by a definition, with that definition."""
+    """What is wrong with the table of conversions: it has each, to a type that is not a crate's own, that gives something by a definition."""
     due = {}
     for path in sorted(CRATES.glob("*/src/lib.rt")):
-        for _, made, gives in CONVERSION.findall(path.read_text(encoding="utf-8")):
-            due[made] = gives
+        text = path.read_text(encoding="utf-8")
+        for _, made, gives in CONVERSION.findall(text):
+            if not re.search(rf"^(?:enum|struct) {re.escape(made)}\b", text, re.M):  # of a type that others can name
+                due[made] = gives
     rows = [(row[0], [span for _, span in SPAN.findall(row[1])]) for row in table(PAGE, ["conversion", "gives"]).rows]
     named = [re.fullmatch(r"`<?([\w\[\]; ]+)>?::(?:try_)?from\(\w+\)`", cell) for cell, _ in rows]
     if None in named or sorted(found.group(1) for found in named) != sorted(due):

@@ -113,6 +113,7 @@ fn scaled_by(w: u64, targets: [u64; 766]) -> [u64; 766]
 
 // H(s), from H(s − 1) = `below` and H(s) = `upto`: what an entry counts of the pixels, behind a name of its own (`share_count`). 766 counts
 // of 32 bits stay below 2^42.
+#[tactic(auto, unfolding(crate::specs::Curve::share_count))]
 fn share_count(below: u64, upto: u64) -> u64
     requires { (below ≤ 2 ^ 42) × (upto ≤ 2 ^ 42) }
     ensures { result ≡ share_count below upto }
@@ -121,6 +122,7 @@ fn share_count(below: u64, upto: u64) -> u64
 }
 
 // N, behind a name of its own too (`full_count`).
+#[tactic(auto, unfolding(crate::specs::Curve::full_count))]
 fn full_count(pixels: u32) -> u64
     requires { pixels ≤ 2 ^ 31 }
     ensures { result ≡ full_count pixels }
@@ -143,6 +145,7 @@ fn shares_of(counts: &[u32; 766]) -> [u64; 766]
 }
 
 // 765 times a share count over the full one, rounded once.
+#[tactic(auto, using(crate::proofs::Curve::equalised_le), unfolding(crate::specs::Curve::equalised_entry))]
 fn equalised_entry(full: u64, share: u64) -> u16
     requires { (0 < full) × (full ≤ 2 ^ 32) × (share ≤ full) }
     ensures { result ≡ equalised_entry full share }
@@ -159,6 +162,7 @@ fn equalised_entries(full: u64, shares: &[u64; 766]) -> [u16; 766]
 }
 
 // Black and white stay.
+#[tactic(auto, using(crate::proofs::Curve::ends_set))]
 fn with_ends(mut entries: [u16; 766]) -> [u16; 766]
     ensures { result ≡ tabulate (with_ends (at entries)) 766 }
 {

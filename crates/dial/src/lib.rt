@@ -15,8 +15,8 @@ pub enum Dial {
     Hold(f32),
 }
 
-// The whole number from 0 to top that y is exactly. The tests of the range come first, so that cutting off a fraction is defined: they refuse NaN and the
-// infinities, and let minus zero pass. A fraction that was cut off makes the comparison fail.
+// The whole number from 0 to top that y is exactly. The tests of the range come first, so that cutting off a fraction is defined: they refuse
+// NaN and the infinities, and let minus zero pass. A fraction that was cut off makes the comparison fail.
 fn whole_of(y: f64, top: u32) -> Option<u32>
     ensures { result ≡ whole_of 1 top y }
 {
@@ -47,19 +47,23 @@ fn intensity(x: f32) -> Option<u32>
     whole_of(f64::from(x), 765)
 }
 
-// Decodes a command, for every float that it may carry. Refused: 17, the amount is not a stop; 18, the held value is not a whole intensity.
-pub fn decode(dial: Dial) -> Result<Setting, Refusal>
-    ensures { result ≡ decoded dial }
-{
-    match dial {
-        Dial::Off => Ok(Setting::Off),
-        Dial::Mix(x) => {
-            let k = stop(x).ok_or(Refusal::NotAStop)?;
-            Ok(Setting::Mix(k))
-        }
-        Dial::Hold(x) => {
-            let v = intensity(x).ok_or(Refusal::NotAnIntensity)?;
-            Ok(Setting::Hold(v))
+// A command is decoded for every float that it may carry. Refused: 17, the amount is not a stop; 18, the held value is not a whole intensity.
+impl TryFrom<Dial> for Setting {
+    type Error = Refusal;
+
+    ghost try_from_gives = { λ dial setting. setting ≡ decoded dial };
+
+    fn try_from(dial: Dial) -> Result<Setting, Refusal> {
+        match dial {
+            Dial::Off => Ok(Setting::Off),
+            Dial::Mix(x) => {
+                let k = stop(x).ok_or(Refusal::NotAStop)?;
+                Ok(Setting::Mix(k))
+            }
+            Dial::Hold(x) => {
+                let v = intensity(x).ok_or(Refusal::NotAnIntensity)?;
+                Ok(Setting::Hold(v))
+            }
         }
     }
 }

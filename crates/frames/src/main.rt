@@ -84,6 +84,7 @@ fn before_white(pixels: &[[u8; 3]]) -> usize
 }
 
 // How a strip came out.
+#[tactic(auto, using(std::proofs::lemmas::Bool::Decides::nat_tests, crate::proofs::Counting::tones_counted))]
 fn tones_of(strip: &[u8]) -> Tones
     ensures { result ≡ tones_of (pixels_of strip.now) }
 {

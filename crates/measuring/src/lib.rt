@@ -14,6 +14,7 @@ use std::array;
 pub const PIXEL_LIMIT: usize = 16777216;
 
 // Counts a pixel of three bytes.
+#[tactic(auto, using(std::proofs::lemmas::Bool::Decides::nat_tests, crate::proofs::Counting::one_more))]
 fn count_pixel(counts: &mut [u32; 766], pixel: [u8; 3])
     requires { PixelFits counts.old }
     ensures { counts.new ≡ with_pixels counts.old (pixel_from pixel 0 ∷ []) }

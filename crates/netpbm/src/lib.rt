@@ -98,6 +98,7 @@ fn read_within(bytes: &[u8]) -> Result<Header, Refusal>
 }
 
 // Reads the header of a file.
+#[tactic(auto, using(std::proofs::lemmas::Bool::Decides::nat_tests, std::proofs::lemmas::List::take_min))]
 pub fn read_header(file: &[u8]) -> Result<Header, Refusal>
     ensures { result ≡ header_of file.now }
 {

@@ -141,13 +141,7 @@ module _ {s f : ℕ} (h : Moving s f) where
       }
 
   -- the cases of the two methods, by the paper's names for them
-  abbrev l̂ : Fraction
-  l̂ = s over 255
-
-  abbrev f̂ : Fraction
-  f̂ = f over 255
-
-  follows₁ : Follows s f (naik_murthy_line s f) (λ c. naik_murthy s f c) (factor₁ s f) (λ c. paper₁ l̂ f̂ (c over 255))
+  follows₁ : Follows s f (naik_murthy_line s f) (λ c. naik_murthy s f c) (factor₁ s f) (λ c. paper₁ (s over 255) (f over 255) (c over 255))
   unfolding naik_murthy_line naik_murthy factor₁ paper₁
   follows₁ =
       either f s
@@ -162,7 +156,7 @@ module _ {s f : ℕ} (h : Moving s f) where
       (λ c m. case_ii m)))
 
   abbrev Follows₂ : Type 0
-  Follows₂ = Follows s f (yang_lee_line s f) (λ c. yang_lee s f c) (factor₂ s f) (λ c. paper₂ l̂ f̂ (c over 255))
+  Follows₂ = Follows s f (yang_lee_line s f) (λ c. yang_lee s f c) (factor₂ s f) (λ c. paper₂ (s over 255) (f over 255) (c over 255))
 
   follows_i : s ≤ 255 → Follows₂
   unfolding yang_lee_line yang_lee factor₂ paper₂ paper_i
@@ -200,12 +194,12 @@ module _ {s f : ℕ} (h : Moving s f) where
       (λ c m. ap (λ (n : ℕ). 255 - near n t) (mul_comm (765 - f) (255 - c)))
       (λ c m. case_iii_ii_lem m))))
 
-  follows_by : (m : Method) → Follows s f (line_of m s f) (by_method m s f) (factor_by m s f) (λ c. paper_by m l̂ f̂ (c over 255))
+  follows_by : (m : Method) → Follows s f (line_of m s f) (by_method m s f) (factor_by m s f) (λ c. paper_by m (s over 255) (f over 255) (c over 255))
   follows_by NaikMurthy = follows₁
   follows_by YangLee = either s 255 follows_i (λ middle. either s 510 (follows_ii middle) follows_iii)
 
   -- the pixels are neither black nor white, which each definition has apart
-  follows : (m : Method) → Follows s f (line_of m s f) (λ c. moved_sample m s f c) (factor m s f) (λ c. paper m l̂ f̂ (c over 255))
+  follows : (m : Method) → Follows s f (line_of m s f) (λ c. moved_sample m s f c) (factor m s f) (λ c. paper m (s over 255) (f over 255) (c over 255))
   unfolding moved_sample factor paper
   follows m =
       simp (

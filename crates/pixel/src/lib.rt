@@ -106,6 +106,7 @@ fn byte(x: u64) -> u8
 }
 
 // near(x × n / d), as a sample.
+#[tactic(auto, using(crate::proofs::Lines::at_most_255))]
 fn scaled(x: u64, n: u64, d: u64) -> u8
     requires { AtMostWhite x n d }
     ensures { result ≡ near (x * n) d }
@@ -148,6 +149,7 @@ fn down_from(start: u64, n: u64, d: u64) -> Line
 
 // Method 1's line for pixels of intensity s that are moved to the target f. (Here and below s and f are numbers with a clause, and no type of
 // their own, so that a line reads as in the rules.)
+#[tactic(auto, using(std::proofs::lemmas::Bool::Decides::nat_tests), unfolding(crate::specs::Lines::naik_murthy_line))]
 fn naik_murthy_line(s: u64, f: u64) -> Line
     requires { Moving s f }
     ensures { result ≡ naik_murthy_line s f }
@@ -159,6 +161,7 @@ fn naik_murthy_line(s: u64, f: u64) -> Line
 }
 
 // Method 2's line for dark pixels, s at most 255.
+#[tactic(auto, using(std::proofs::lemmas::Bool::Decides::nat_tests), unfolding(crate::specs::Lines::yang_lee_line))]
 fn yang_lee_dark_line(s: u64, f: u64) -> Line
     requires { Moving s f × (s ≤ 255) }
     ensures { result ≡ yang_lee_line s f }
@@ -170,6 +173,7 @@ fn yang_lee_dark_line(s: u64, f: u64) -> Line
 }
 
 // Method 2's line for bright pixels, s above 510.
+#[tactic(auto, using(std::proofs::lemmas::Bool::Decides::nat_tests), unfolding(crate::specs::Lines::yang_lee_line))]
 fn yang_lee_bright_line(s: u64, f: u64) -> Line
     requires { Moving s f × (510 < s) }
     ensures { result ≡ yang_lee_line s f }
@@ -182,6 +186,7 @@ fn yang_lee_bright_line(s: u64, f: u64) -> Line
 }
 
 // Method 2's line: the pixel's own intensity decides the case, and not the target.
+#[tactic(auto, using(std::proofs::lemmas::Bool::Decides::nat_tests), unfolding(crate::specs::Lines::yang_lee_line))]
 fn yang_lee_line(s: u64, f: u64) -> Line
     requires { Moving s f }
     ensures { result ≡ yang_lee_line s f }
@@ -219,6 +224,7 @@ fn along_line(method: Method, s: u64, f: u64, c: u64) -> u8
 }
 
 // One sample of a moved pixel. Black and white stay, and neither method divides by zero.
+#[tactic(auto, using(std::proofs::lemmas::Bool::Decides::nat_tests, crate::proofs::Lines::moves_follow_lines), unfolding(crate::specs::Move::moved_sample))]
 fn moved_sample(method: Method, s: u64, f: u64, c: u64) -> u8
     requires { PixelSample s f c }
     ensures { result ≡ moved_sample method s f c }

@@ -4,8 +4,11 @@ use mathlib.Core.Bool.{false≢true}
 use lib.Ieee.{Float, nan, inf, fin, up, down}
 use lib.Ieee.Fits.{down_pos}
 use Rattle.std.proofs.lemmas.Bool.{and_parts}
+use Rattle.refusal.specs.declared.Refusal.{Refusal}
+use Rattle.refusal.specs.declared.Refusal.TheVariants.{NotAStop, NotAnIntensity}
+use Rattle.settings.specs.declared.Setting.{Setting}
 use Rattle.settings.specs.declared.Setting.TheVariants as S
-use Rattle.dial.specs.Dial.{may_have_sign, IsExactly, whole_if, whole_of, as_mix, as_hold, decoded, refusal_of, full_balance, DecodingIsExact}
+use Rattle.dial.specs.Dial.{may_have_sign, IsExactly, whole_if, whole_of, setting_by, as_mix, as_hold, decoded, refusal_of, full_balance, DecodingIsExact}
 
 -- a whole number is found only where the test holds
 passed : (t : Bool) (j k : ℕ) → cond t (Some j) None ≡ Some k → (t ≡ true) × (j ≡ k)
@@ -51,21 +54,26 @@ agree n top x y same = go (whole_of n top x) refl
     go (Some k) found = let (range, exact) = sound n top x k found in complete 1 top y k range ((same k).1 exact)
     go None found = none 1 top y (λ k range exact. let is = complete n top x k range ((same k).0 exact) in false≢true cc)
 
--- an amount that was decoded to a stop had that whole number
-mixed_is : (w : Option ℕ) (k : ℕ) → as_mix w ≡ Ok (S.Mix k) → w ≡ Some k
-mixed_is (Some j) k e = cc
-mixed_is None k e = cc
+-- A command whose setting is that of the whole number of n times its float, where each setting has one number.
+module _ (setting : ℕ → Setting) (refusal : Refusal) (one : (j k : ℕ) → setting j ≡ setting k → j ≡ k) where
+  -- decoded to the setting of k, it had the whole number k
+  number_is : (w : Option ℕ) (k : ℕ) → setting_by setting refusal w ≡ Ok (setting k) → w ≡ Some k
+  number_is (Some j) k e = ap Some (one j k cc)
+  number_is None k e = cc
 
--- and so had a held value that was decoded to an intensity
-held_is : (w : Option ℕ) (k : ℕ) → as_hold w ≡ Ok (S.Hold k) → w ≡ Some k
-held_is (Some j) k e = cc
-held_is None k e = cc
+  -- so it is decoded to that setting exactly if the float is k / n, with k at most top
+  exactly : (n top : ℕ) (x : Float) (k : ℕ)
+      → (setting_by setting refusal (whole_of n top x) ≡ Ok (setting k)) ↔ (k ≤ top) × IsExactly x k n
+  exactly n top x k = (
+    λ e. sound n top x k (number_is (whole_of n top x) k e),
+    λ (range, exact). ap (setting_by setting refusal) (complete n top x k range exact),
+  )
 
 pub decoding_is_exact : DecodingIsExact
 decoding_is_exact = record {
   off = refl;
-  mixes = λ x k. (λ e. sound 256 256 x k (mixed_is (whole_of 256 256 x) k e), λ (range, exact). ap as_mix (complete 256 256 x k range exact));
-  holds = λ x k. (λ e. sound 1 765 x k (held_is (whole_of 1 765 x) k e), λ (range, exact). ap as_hold (complete 1 765 x k range exact));
+  mixes = exactly S.Mix NotAStop (λ j k e. cc) 256 256;
+  holds = exactly S.Hold NotAnIntensity (λ j k e. cc) 1 765;
   no_stop = λ x never. ap (λ (w : Option ℕ). refusal_of (as_mix w)) (none 256 256 x never);
   no_intensity = λ x never. ap (λ (w : Option ℕ). refusal_of (as_hold w)) (none 1 765 x never);
 }

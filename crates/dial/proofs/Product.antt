@@ -1,11 +1,12 @@
 -- 256 times a 32-bit float is exact in 64 bits.
 use Rattle.std.proofs.Common.{◌≡◌, ℕ, zero, suc, ◌+◌, ◌-◌, ◌*◌, ◌%◌, ◌^◌, ◌<◌, ◌≤◌, Bool, true, false, ◌&&◌, T, eqb, ltb, leb, ◌↔◌, ℤ, pos, negsuc, sym, refl, ap, ◌∙◌, subst, le_trans, le_of_eq, lt_of_le_of_lt, le_of_lt, mul-le-mul_right, mul_assoc, mul-pos, one-mul, zero-mul, mul-one, mul_right_comm, not-le_of_lt, le_of_mul-le-mul_right, arith, lit<, lit≤, eqb→eq, ltb→lt, leb→le, pow_pos, pow-add}
 use lib.Pow.{pow-lt}
-use lib.Ieee.{Float, nan, inf, fin, binary32, binary64, up, down, unlike, round, mul, fits}
+use lib.Ieee.{Float, nan, inf, fin, binary32, binary64, up, down, unlike, round, mul, fits, of_bits}
 use lib.Ieee.Exact.{HasValue, round_exact}
 use lib.Ieee.Fits.{up_pos, down_pos, and_l, and_r}
 use Rattle.tables.proofs.Cases.{either}
-use Rattle.dial.specs.Dial.{IsExactly}
+use Rattle.dial.specs.Dial.{IsExactly, whole_of}
+use Rattle.dial.proofs.Exact.{agree}
 use Rattle.dial.proofs.Machine.{same_value}
 
 -- m × 2 ^ e has the digits and the range of a 32-bit float
@@ -92,3 +93,9 @@ scaled nan fit k = (λ exact. exact, λ exact. exact)
 scaled (inf s) fit k = (λ exact. exact, λ exact. exact)
 scaled (fin s m e) fit k =
     same_value (times256 (fin s m e)) s (m * up e * 256) (down e) k (down_pos e) (product s m e (small s m e fit))
+
+-- so the whole number of 256 times it is that of k / 256 (by the bits of the 64-bit float 256, since so the code's number stands in the goal)
+pub stop_of_product : (x : Float) → fits binary32 x ≡ true
+    → whole_of 1 256 (mul binary64 x (of_bits binary64 4643211215818981376)) ≡ whole_of 256 256 x
+unfolding of_bits
+stop_of_product x fit = agree 256 256 x (times256 x) (scaled x (subst T (sym fit) tt))

@@ -35,15 +35,18 @@ whole_of n top (fin s m e) = whole_if s (m * up e * n) (down e) top (m * up e * 
 abbrev pub Decoded : Type 0
 Decoded = Result Setting Refusal
 
+-- A whole number is that of a setting; where there is none, the command is refused.
+abbrev pub setting_by : (ℕ → Setting) → Refusal → Option ℕ → Decoded
+setting_by setting refusal (Some k) = Ok (setting k)
+setting_by setting refusal None = Err refusal
+
 -- An amount's whole number is the stop.
 abbrev pub as_mix : Option ℕ → Decoded
-as_mix (Some k) = Ok (S.Mix k)
-as_mix None = Err NotAStop
+as_mix = setting_by S.Mix NotAStop
 
 -- A held value's is the intensity.
 abbrev pub as_hold : Option ℕ → Decoded
-as_hold (Some k) = Ok (S.Hold k)
-as_hold None = Err NotAnIntensity
+as_hold = setting_by S.Hold NotAnIntensity
 
 -- What a command is decoded to.
 abbrev pub decoded : Dial → Decoded

@@ -34,6 +34,7 @@ fn whole_of(y: f64, top: u32) -> Option<u32>
 }
 
 // The k from 0 to 256 with x = k / 256. In 64 bits the product of every finite x is exact.
+#[tactic(auto, using(crate::proofs::Product::stop_of_product))]
 fn stop(x: f32) -> Option<u32>
     ensures { result ≡ whole_of 256 256 x }
 {

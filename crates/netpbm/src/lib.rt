@@ -73,7 +73,7 @@ fn judge(header: Header, largest: u32) -> Result<Header, Refusal>
 }
 
 // Reads a header that must end within these bytes.
-#[tactic(auto, using(crate::proofs::Letters::letters_start), unfolding(crate::specs::Header::header_in))]
+#[tactic(auto, using(crate::proofs::Letters::letters_start, crate::proofs::Bytes::last_is, crate::proofs::Fields::last_decides), unfolding(crate::specs::Header::header_in))]
 fn read_within(bytes: &[u8]) -> Result<Header, Refusal>
     ensures { result ≡ header_in bytes.now }
 {

@@ -10,6 +10,7 @@ use curve::Choice;
 use dial::Dial;
 use pixel::Method;
 use refusal::Refusal;
+use settings::Setting;
 use std::marker::Model;
 
 // A shot's state: how many of its pixels have each intensity, how many they are, and, once it is fixed, its tone curve. The counts
@@ -159,7 +160,7 @@ impl Shot {
         if destination.len() != source.len() {
             return Err(Refusal::LengthsDiffer);
         }
-        let setting = dial::decode(dial)?;
+        let setting = Setting::try_from(dial)?;
         colouring::colour_under(setting, curve, method, source, destination);
         Ok(())
     }

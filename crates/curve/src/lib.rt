@@ -69,6 +69,7 @@ impl NonFalling<'_> {
     }
 
     // The smallest place at which the sequence lies nearest to the aim: one of the aim's bounds.
+    #[tactic(auto, using(crate::proofs::Nearest::found_upper, crate::proofs::Nearest::found_lower))]
     fn nearest_place(self, aim: u64, bounds: Bounds) -> usize
         requires { Bounding self.values.now aim bounds.lower bounds.upper }
         ensures { result ≡ nearest_place (at self.entry.values.now) 765 aim }
@@ -88,6 +89,7 @@ impl NonFalling<'_> {
     }
 
     // For each intensity the place of the sequence nearest to scale times its share count. (A loop, since bounds go on from entry to entry.)
+    #[tactic(auto, using(crate::proofs::Nearest::nearest_le, tables::proofs::Filling::filled_end))]
     fn nearest_entries(self, scale: u64, shares: NonFalling) -> [u16; 766]
         requires { AimsFit scale shares.values.now }
         ensures { result ≡ tabulate (λ s. nearest_place (at self.entry.values.now) 765 (scale * at shares.entry.values.now s)) 766 }
@@ -131,6 +133,7 @@ fn full_count(pixels: u32) -> u64
 }
 
 // The share count of each intensity, from the cumulative counts. (A loop, since a sum goes on from count to count.)
+#[tactic(auto, using(tables::proofs::Filling::filled_start, tables::proofs::Filling::filled_end, measuring::proofs::Cumulative::sum_start))]
 fn shares_of(counts: &[u32; 766]) -> [u64; 766]
     ensures { result ≡ tabulate (share_at (cumulative counts.now)) 766 }
 {

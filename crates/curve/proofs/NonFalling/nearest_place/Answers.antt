@@ -1,5 +1,5 @@
 -- `curve::NonFalling::nearest_place` meets its contract.
-use Rattle.curve.proofs.Nearest.{found_start, found_past, found_upper, found_lower}
+use Rattle.curve.proofs.Nearest.{found_start, found_past}
 use Rattle.curve.proofs.NonFalling.nearest_place.Goals as goal
 
 pub returns-then-upper-eq0 : goal.returns-then-upper-eq0
@@ -11,13 +11,3 @@ pub returns-then-upper-ge766 : goal.returns-then-upper-ge766
 returns-then-upper-ge766 c =
     found_past c.args.self.values.now c.args.aim c.args.bounds.lower c.args.bounds.upper c.args.self.never_falls
     c.requires c.if-upper-eq0.false c.if-upper-ge766.true
-
-pub returns-then-self-upper : goal.returns-then-self-upper
-returns-then-self-upper c =
-    found_upper c.args.self.values.now c.args.aim c.args.bounds.lower c.args.bounds.upper c.args.self.never_falls
-    c.requires c.if-upper-eq0.false c.if-upper-ge766.false c.if-self-upper.true
-
-pub returns : goal.returns
-returns c =
-    found_lower c.args.self.values.now c.args.aim c.args.bounds.lower c.args.bounds.upper c.args.self.never_falls
-    c.requires c.if-upper-eq0.false c.if-upper-ge766.false c.if-self-upper.false

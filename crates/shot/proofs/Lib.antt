@@ -4,3 +4,4 @@ pub mod Answers
 pub mod Empty
 pub mod Premise
 pub mod OneStrip
+pub mod Made

@@ -80,7 +80,7 @@ impl Shot {
     }
 
     // The shot with the strip added.
-    #[tactic(auto, unfolding(crate::specs::Shot::measured))]
+    #[tactic(auto, using(crate::proofs::Premise::within_limit, crate::proofs::Made::strip_made, crate::proofs::Made::strip_reachable), unfolding(crate::specs::Shot::measured))]
     fn with_strip(&self, strip: &[u8]) -> Result<Shot, Refusal>
         ensures { handed_back self.now result ≡ measured self.now strip.now }
     {
@@ -112,7 +112,7 @@ impl Shot {
     }
 
     // The shot with its curve.
-    #[tactic(auto, unfolding(crate::specs::Shot::fixed_with))]
+    #[tactic(auto, using(crate::proofs::Premise::histogram_of, crate::proofs::Made::curve_made, crate::proofs::Made::curve_reachable), unfolding(crate::specs::Shot::fixed_with))]
     fn with_curve(&self, choice: u32) -> Result<Shot, Refusal>
         ensures { handed_back self.now result ≡ fixed_with self.now choice }
     {
@@ -141,7 +141,7 @@ impl Shot {
     }
 
     // Writes the coloured source.
-    #[tactic(auto, unfolding(crate::specs::Shot::coloured))]
+    #[tactic(auto, using(crate::proofs::Made::curve_in_range), unfolding(crate::specs::Shot::coloured))]
     fn write(
         &self,
         method: u32,

@@ -7,7 +7,8 @@ ghost use Rattle.dial.specs.Dial.{whole_of, decoded};
 use refusal::Refusal;
 use settings::Setting;
 
-// The panel's command, as it was sent.
+// The panel's command, as it was sent. (A type apart from `Setting`, and not one type with a parameter for the numbers: a command has the
+// floats that the panel sent, which may be refused, and a setting the whole numbers that accepted ones stand for.)
 #[derive(Clone, Copy)]
 pub enum Dial {
     Off,

@@ -127,8 +127,8 @@ fn print_measure(rt: &impl Print, shot: Shot, strip: &[u8]) -> Shot {
     answer.shot
 }
 
-// The long strips fill a new shot up to one pixel below its limit, and a line says how many of them it accepted. Then come two pixels,
-// one, and one more.
+// The long strips fill a new shot up to one pixel below its limit, and a line says how many of them it accepted. (A loop, since each strip
+// goes to the shot that the one before has left.) Then come two pixels, one, and one more.
 fn print_limit(rt: &impl Print) {
     let strip = [100u8; LONG_STRIP];
     let mut shot = Shot::open();

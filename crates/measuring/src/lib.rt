@@ -43,7 +43,8 @@ fn added(first: [u32; 766], second: [u32; 766], third: [u32; 766], fourth: [u32;
 }
 
 // The counts with the strip's pixels added. Four histograms take the pixels in turn, so that where equal pixels follow each other, no
-// count waits for the store of the one before. (They have four names and are no array: which one takes a pixel then needs no index.)
+// count waits for the store of the one before. (They have four names and are no array: of an array the proof would have to show at each of
+// the four calls that the other three histograms stay.)
 pub fn count_strip(start: [u32; 766], strip: &[u8]) -> [u32; 766]
     requires { CountsFit start strip.now }
     ensures { result ≡ with_pixels start (pixels_of strip.now) }

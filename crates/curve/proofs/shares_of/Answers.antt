@@ -1,4 +1,4 @@
--- `curve::shares_of` meets its contract.
+-- `curve::shares_of` meets its contract. (Without this the invariant after one more count stays open.)
 use mathlib.Core.Path.{ap₂, ◌∙◌}
 use native.Mathlib.Numerals.{add-one}
 use native.Mathlib.Omega.{arith}

@@ -1,4 +1,4 @@
--- `pixel::along_line` meets its contract.
+-- `pixel::along_line` meets its contract. (By lemmas that the function names, what `scaled` and `scaled_from_white` ask stays open.)
 use mathlib.Core.Path.{◌≡◌, refl, sym, subst}
 use Prim.Native.Nat.{ℕ, ◌*◌}
 use native.Mathlib.Omega.{arith}

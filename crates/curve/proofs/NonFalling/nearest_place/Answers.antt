@@ -1,4 +1,4 @@
--- `curve::NonFalling::nearest_place` meets its contract.
+-- `curve::NonFalling::nearest_place` meets its contract. (The two ends, at which `upper` is a known number, stay open without these.)
 use Rattle.curve.proofs.Nearest.{found_start, found_past}
 use Rattle.curve.proofs.NonFalling.nearest_place.Goals as goal
 

@@ -1,4 +1,5 @@
--- What the functions of this crate that no customer calls require and ensure; their callers show it. No outside call's contract cites these.
+-- What the functions of this crate that no customer calls require and ensure; their callers show it. No outside call's contract cites
+-- these.
 use Rattle.std.specs.Prelude.{◌≡◌, List, ℕ, ◌*◌, ◌^◌, ◌≤◌, ◌<◌}
 use Rattle.tables.specs.Table.{at}
 use Rattle.measuring.specs.Histogram.{cumulative}

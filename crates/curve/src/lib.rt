@@ -88,7 +88,8 @@ impl NonFalling<'_> {
         lower
     }
 
-    // For each intensity the place of the sequence nearest to scale times its share count. (A loop, since bounds go on from entry to entry.)
+    // For each intensity the place of the sequence nearest to scale times its share count. (A loop, since bounds go on from entry to
+    // entry.)
     #[tactic(auto, using(crate::proofs::Nearest::nearest_le, tables::proofs::Filling::filled_end))]
     fn nearest_entries(self, scale: u64, shares: NonFalling) -> [u16; 766]
         requires { AimsFit scale shares.values.now }

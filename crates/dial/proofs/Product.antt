@@ -94,7 +94,7 @@ scaled (inf s) fit k = (λ exact. exact, λ exact. exact)
 scaled (fin s m e) fit k =
     same_value (times256 (fin s m e)) s (m * up e * 256) (down e) k (down_pos e) (product s m e (small s m e fit))
 
--- so the whole number of 256 times it is that of k / 256 (by the bits of the 64-bit float 256, since so the code's number stands in the goal)
+-- so the whole number of the product is the stop (256 stands here by its bits as a 64-bit float, as it does where `stop` is proved)
 pub stop_of_product : (x : Float) → fits binary32 x ≡ true
     → whole_of 1 256 (mul binary64 x (of_bits binary64 4643211215818981376)) ≡ whole_of 256 256 x
 unfolding of_bits

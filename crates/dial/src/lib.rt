@@ -16,8 +16,8 @@ pub enum Dial {
     Hold(f32),
 }
 
-// The whole number from 0 to top that y is exactly. The tests of the range come first, so that cutting off a fraction is defined: they refuse
-// NaN and the infinities, and let minus zero pass. A fraction that was cut off makes the comparison fail.
+// The whole number from 0 to top that y is exactly. The tests of the range come first, so that cutting off a fraction is defined: they
+// refuse NaN and the infinities, and let minus zero pass. A fraction that was cut off makes the comparison fail.
 fn whole_of(y: f64, top: u32) -> Option<u32>
     ensures { result ≡ whole_of 1 top y }
 {
@@ -49,7 +49,8 @@ fn intensity(x: f32) -> Option<u32>
     whole_of(f64::from(x), 765)
 }
 
-// A command is decoded for every float that it may carry. Refused: 17, the amount is not a stop; 18, the held value is not a whole intensity.
+// A command is decoded for every float that it may carry. Refused: 17, the amount is not a stop; 18, the held value is not a whole
+// intensity.
 impl TryFrom<Dial> for Setting {
     type Error = Refusal;
 

@@ -1,5 +1,5 @@
--- The lines, the moves, the factors and the paper's formulas, walked through once: in each case they are of one line, and this is what later
--- proofs use of it.
+-- The lines, the moves, the factors and the paper's formulas, walked through once: in each case they are of one line, and this is what
+-- later proofs use of it.
 use mathlib.Core.Path.{◌≡◌, refl, ap, ◌∙◌}
 use Prim.Native.Nat.{ℕ, ◌+◌, ◌-◌, ◌*◌, ◌<◌, ◌≤◌}
 use native.Mathlib.Nat.{sub-zero, mul_comm, mul-le-mul}

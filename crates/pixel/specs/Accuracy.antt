@@ -70,8 +70,8 @@ pub record PixelAccurate (t : Tolerance) (k target : Fraction) (p q : Pixel) : T
   -- the channels keep their order and, times the factor, their differences
   pub channels : KeepsDifferences t.steps k p q
 
--- Black and white stay for every target, so the rule on the sum is claimed of them only where the target is their own, 0 or 765. Every tone curve
--- has these ends.
+-- Black and white stay for every target, so the rule on the sum is claimed of them only where the target is their own, 0 or 765.
+-- Every tone curve has these ends.
 pub record OwnEnds (p : Pixel) (f : ℕ) : Type 0 where
   pub black : intensity p ≡ 0 → f ≡ 0
   pub white : intensity p ≡ 765 → f ≡ 765

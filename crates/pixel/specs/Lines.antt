@@ -1,6 +1,6 @@
--- The lines that samples move along. By either method, the samples of all pixels of one intensity, neither black nor white, that are moved to
--- one target lie on one line: at the distance x from the line's start, a sample goes to x times the line's fraction, counted up from black or
--- down from white. Document 01's six formulas are four such lines.
+-- The lines that samples move along. By either method, the samples of all pixels of one intensity, neither black nor white, that are moved
+-- to one target lie on one line: at the distance x from the line's start, a sample goes to x times the line's fraction, counted up from
+-- black or down from white. Document 01's six formulas are four such lines.
 use Rattle.std.specs.Prelude.{◌≡◌, cond, ℕ, ◌-◌, ◌*◌, leb}
 use Rattle.rounding.specs.Fraction.{Fraction, whole, ◌over◌, ◌⊗◌, ◌≈◌, nearest}
 use Rattle.pixel.specs.Accuracy.{factor}

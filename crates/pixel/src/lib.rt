@@ -88,8 +88,8 @@ impl Pixel {
     }
 }
 
-// near(x × n / d), the product rounded once. (x, n and d are numbers with a clause here and in the next functions: a type for the three would
-// be taken apart at once.)
+// near(x × n / d), the product rounded once. (x, n and d are numbers with a clause here and in the next functions: a type for the three
+// would be taken apart at once.)
 fn rounded_product(x: u64, n: u64, d: u64) -> u64
     requires { AtMostWhite x n d }
     ensures { result ≡ near (x * n) d }
@@ -147,8 +147,8 @@ fn down_from(start: u64, n: u64, d: u64) -> Line
     }
 }
 
-// Method 1's line for pixels of intensity s that are moved to the target f. (Here and below s and f are numbers with a clause, and no type of
-// their own, so that a line reads as in the rules.)
+// Method 1's line for pixels of intensity s that are moved to the target f. (Here and below s and f are numbers with a clause, and no
+// type of their own, so that a line reads as in the rules.)
 #[tactic(auto, using(std::proofs::lemmas::Bool::Decides::nat_tests), unfolding(crate::specs::Lines::naik_murthy_line))]
 fn naik_murthy_line(s: u64, f: u64) -> Line
     requires { Moving s f }

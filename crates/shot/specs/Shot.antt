@@ -85,8 +85,8 @@ colour_checks fixed known whole same stop held =
     ∷ not held refuses 18
     ∷ []
 
--- What a colouring with this number leaves: an accepted one writes every source pixel, as the dial's setting has it, by the curve's entry for
--- its intensity; a refused one touches no byte. Both hand back the shot as it is.
+-- What a colouring with this number leaves: an accepted one writes every source pixel, as the dial's setting has it, by the curve's entry
+-- for its intensity; a refused one touches no byte. Both hand back the shot as it is.
 abbrev pub colouring_outcome : ℕ → Shot → ColourRequest → Outcome
 colouring_outcome number x q =
     record {

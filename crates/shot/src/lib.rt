@@ -131,8 +131,8 @@ impl Shot {
         })
     }
 
-    // Colours the source into the destination by the shot's curve, as the dial has it, and hands the shot back as it is. Refused: 6, 7, 2, 8,
-    // 17 or 18. (The method comes as a number, so that any other can be refused; the arguments are those that the customer named.)
+    // Colours the source into the destination by the shot's curve, as the dial has it, and hands the shot back as it is. Refused: 6, 7, 2,
+    // 8, 17 or 18. (The method comes as a number, so that any other can be refused; the arguments are those that the customer named.)
     pub fn colour(self, method: u32, dial: Dial, source: &[u8], destination: &mut [u8]) -> Answer
         ensures { coloured self (record { method = method; dial = dial; source = source.now; destination = destination.old }) ≡ record { answer = result; bytes = destination.new } }
     {

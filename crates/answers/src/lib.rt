@@ -16,7 +16,7 @@ pub const BYTE_LIMIT: usize = script::LINE_LIMIT / 2;
 pub const TEXT_LIMIT: usize = script::LINE_LIMIT + 64;
 
 // Writes a number and a line feed at the start of the output, and hands back how many bytes that are.
-#[tactic(auto, using(crate::proofs::Sizes::sizes))]
+#[tactic(auto, using(crate::proofs::Sizes::sizes, text::proofs::Runs::wrote_more, crate::proofs::Sizes::answered))]
 pub fn write_number(number: u32, output: &mut [u8]) -> usize
     requires { text_limit ≤ length output.old }
     ensures { WritesAnswer (number_text number) output.old result output.new }
@@ -28,6 +28,7 @@ pub fn write_number(number: u32, output: &mut [u8]) -> usize
 }
 
 // Writes bytes as a script has them: in hexadecimal digits, or - for none.
+#[tactic(auto, using(crate::proofs::Sizes::strip_some, hexadecimal::proofs::Hexadecimal::length_encoded, std::proofs::lemmas::Bool::Decides::nat_tests))]
 fn write_strip(bytes: &[u8], writer: &mut Writer)
     requires { writer.old.end + length (strip_text bytes.now) ≤ length writer.old.run.now }
     ensures { Wrote (strip_text bytes.now) writer.old writer.new }

@@ -55,6 +55,7 @@ pub fn decode(digits: &[u8], output: &mut [u8]) -> usize
 }
 
 // Writes bytes as digits.
+#[tactic(auto, using(crate::proofs::Writing::encoded_start, crate::proofs::Writing::encoded_room, crate::proofs::Writing::encoded_more))]
 pub fn encode(bytes: &[u8], writer: &mut Writer)
     requires { writer.old.end + 2 * length bytes.now ≤ length writer.old.run.now }
     ensures { Wrote (encoded bytes.now) writer.old writer.new }

@@ -1,12 +1,12 @@
 -- The floats of the head: a number of 16 bits, and its 256th part, are not rounded.
-use mathlib.Core.Path.{◌≡◌, refl, sym, ap, ◌∙◌, subst}
+use mathlib.Core.Path.{◌≡◌, refl, sym, ap, ◌∙◌}
 use mathlib.Core.Bool.{true, false, true≢false}
 use Prim.Native.Nat.{ℕ, ◌*◌, ◌^◌, ◌<◌}
 use native.Mathlib.Nat.{mul_assoc, mul_comm, mul-pos, lt_of_lt_of_le, le_of_lt, le_trans, mul-lt-mul_of_pos_right}
 use lib.Dec.{lit<, lit≤}
 use lib.IntN.{pos}
 use lib.Pow.{pow_pos}
-use lib.Ieee.{Float, nan, inf, fin, binary32, up, down, round, div, of_int}
+use lib.Ieee.{Float, nan, inf, fin, binary32, up, down, round, div, of_int, of_bits}
 use lib.Ieee.Back.{round_whole}
 use lib.Ieee.Exact.{HasValue, round_exact}
 use lib.Ieee.Fits.{down_pos}
@@ -46,8 +46,7 @@ module _ (k : ℕ) (fits : k < 2 ^ 16) where
       round_same binary32 false (m * up e * 1) (256 * down e) k 256 (mul-pos (lit< tt) (down_pos e)) (lit< tt)
       (ap (λ (a : ℕ). a * 256) at.1 ∙ mul_assoc k (down e) 256 ∙ ap (λ (a : ℕ). k * a) (mul_comm (down e) 256))
 
-  -- the cast, divided
-  pub part_exactly : IsExactly (div binary32 (of_int binary32 (pos k)) (fin false 1 (pos 8))) k 256
-  part_exactly =
-      subst (λ (x : Float). IsExactly x k 256) (sym (divided (of_int binary32 (pos k)) whole_value))
-      (is_exactly (round binary32 false k 256) k 256 part_value)
+  -- the cast, divided by the float whose pattern this is: 256
+  pub part_exactly : (x : Float) → x ≡ of_int binary32 (pos k) → IsExactly (div binary32 x (of_bits binary32 1132462080)) k 256
+  unfolding of_bits
+  part_exactly x is = rw (is, divided (of_int binary32 (pos k)) whole_value) (is_exactly (round binary32 false k 256) k 256 part_value)

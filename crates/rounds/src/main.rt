@@ -44,6 +44,7 @@ impl fmt::Display for Failure {
 }
 
 // k / 256. Neither the cast nor the division rounds.
+#[tactic(auto, using(crate::proofs::Floats::part_exactly))]
 fn amount_of(k: u16) -> f32
     ensures { IsExactly result k 256 }
 {

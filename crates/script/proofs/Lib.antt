@@ -1,3 +1,4 @@
 pub mod Names
 pub mod Due
 pub mod Examples
+pub mod Comments

@@ -87,7 +87,7 @@ pub fn read_word(line: &[u8], place: usize) -> Result<Word, Fault>
 }
 
 // The number that a word stands for: 1 to 10 digits, and no more than 32 bits hold.
-#[tactic(auto, unfolding(crate::specs::Words::number_of))]
+#[tactic(auto, using(crate::proofs::Numerals::all_digits), unfolding(crate::specs::Words::number_of))]
 fn number_of(word: &[u8]) -> Option<u32>
     ensures { result ≡ number_of word.now }
 {

@@ -1,10 +1,11 @@
 // The dial among the words of a line of a script: off, mix and a float, or hold and a float.
 #![tactic(auto)]
 
-ghost use Rattle.std.specs.Prelude.{◌≡◌, length};
+ghost use Rattle.std.specs.Prelude.{◌≡◌, length, ok_or};
 ghost use Rattle.std.specs.Float.{binary32};
 ghost use Rattle.std.specs.Float.Ieee.{of_bits};
 ghost use Rattle.hexadecimal.specs.Hexadecimal.{decoded};
+ghost use Rattle.words.specs.declared.Fault.TheVariants.{NoSuchDial};
 ghost use Rattle.dial_words.specs.DialWords.{pattern_of, float_of, float_at, command_of, command_at, dial_at};
 
 use dial::Dial;
@@ -57,21 +58,24 @@ pub fn read_float(line: &[u8], place: usize) -> Result<Found<f32>, Fault>
     })
 }
 
-// The command that a word names.
-#[tactic(auto, using(crate::proofs::Commands::command_read, std::proofs::lemmas::Bool::Decides::nat_tests))]
-fn command_of(word: &[u8]) -> Option<DialCommand>
-    ensures { result ≡ command_of word.now }
-{
-    match word {
-        b"off" => Some(DialCommand::Off),
-        b"mix" => Some(DialCommand::Mix),
-        b"hold" => Some(DialCommand::Hold),
-        _ => None,
+impl TryFrom<&[u8]> for DialCommand {
+    type Error = Fault;
+
+    ghost try_from_gives = { λ word command. command ≡ ok_or (command_of word.now) NoSuchDial };
+
+    // The command that a word names.
+    #[tactic(auto, using(crate::proofs::Commands::command_read, std::proofs::lemmas::Bool::Decides::nat_tests))]
+    fn try_from(word: &[u8]) -> Result<DialCommand, Fault> {
+        match word {
+            b"off" => Ok(DialCommand::Off),
+            b"mix" => Ok(DialCommand::Mix),
+            b"hold" => Ok(DialCommand::Hold),
+            _ => Err(Fault::NoSuchDial),
+        }
     }
 }
 
-// What follows the command of a dial. (Mix and hold have an arm each: a function that took the case would have to say what it makes of a
-// float.)
+// What follows the command of a dial.
 fn read_command(command: DialCommand, line: &[u8], place: usize) -> Result<Found<Dial>, Fault>
     ensures { result ≡ command_at command line.now place }
 {
@@ -80,20 +84,8 @@ fn read_command(command: DialCommand, line: &[u8], place: usize) -> Result<Found
             value: Dial::Off,
             end: place,
         }),
-        DialCommand::Mix => {
-            let amount = read_float(line, place)?;
-            Ok(Found {
-                value: Dial::Mix(amount.value),
-                end: amount.end,
-            })
-        }
-        DialCommand::Hold => {
-            let intensity = read_float(line, place)?;
-            Ok(Found {
-                value: Dial::Hold(intensity.value),
-                end: intensity.end,
-            })
-        }
+        DialCommand::Mix => Ok(read_float(line, place)?.map(Dial::Mix)),
+        DialCommand::Hold => Ok(read_float(line, place)?.map(Dial::Hold)),
     }
 }
 
@@ -103,6 +95,6 @@ pub fn read_dial(line: &[u8], place: usize) -> Result<Found<Dial>, Fault>
     ensures { result ≡ dial_at line.now place }
 {
     let word = words::read_word(line, place)?;
-    let command = command_of(word.bytes_in(line)).ok_or(Fault::NoSuchDial)?;
+    let command = DialCommand::try_from(word.bytes_in(line))?;
     read_command(command, line, word.end)
 }

@@ -1,7 +1,7 @@
 -- Scripts: the examples, by computing, and laws of repeated commands.
-use mathlib.Core.Path.{◌≡◌, refl, ap}
+use mathlib.Core.Path.{◌≡◌, refl}
 use mathlib.Core.List.{List}
-use Prim.Native.Nat.{ℕ, zero, suc, ◌-◌, ◌≤◌, ◌<◌}
+use Prim.Native.Nat.{ℕ, zero, suc, ◌+◌, ◌-◌, ◌≤◌, ◌<◌}
 use native.Mathlib.Omega.{arith}
 use Rattle.text.specs.Decimal.{value_after, decimal_within, decimal}
 use Rattle.scanning.specs.Scanning.{run_length, same_bytes}
@@ -22,14 +22,11 @@ unfolding examples lines_after replies_to answers_from value_after decimal_withi
 examples_hold = refl
 
 module _ (line : List ℕ) (command : Command) (shots : Shots) where
-  -- one of the times that are left
-  pub replies_more : (left : ℕ) → 0 < left
-      → (replies_to (left - 1) line command (answer_to line shots command).shots).shots ≡ (replies_to left line command shots).shots
+  -- of the times that are left, one
+  pub replies_more : (times done : ℕ) → done < times
+      → (replies_to (times - done) line command shots).shots ≡ (replies_to (times - (done + 1)) line command (answer_to line shots command).shots).shots
   unfolding replies_to
-  replies_more zero some = absurd (omega arith)
-  replies_more (suc left) some =
-      let one : suc left - 1 ≡ left = omega arith in
-      ap (λ (n : ℕ). (replies_to n line command (answer_to line shots command).shots).shots) one
+  replies_more times done some = let left : times - done ≡ suc (times - (done + 1)) = omega arith in rw left refl
 
   -- none is left
   pub replies_none : (left : ℕ) → left ≤ 0 → shots ≡ (replies_to left line command shots).shots

@@ -33,6 +33,11 @@ impl fmt::Display for Failure {
     }
 }
 
+// Whether a line ends at the byte.
+fn ends_line(b: u8) -> bool {
+    !scanning::in_class(Class::Line, b)
+}
+
 // Writes an answer.
 fn write_answer(writer: &mut impl Write, answer: &[u8]) -> Result<(), Failure> {
     writer.write_all(answer).map_err(|_| Failure::Writing)
@@ -63,6 +68,7 @@ impl<W: Write> Replay<W> {
     }
 
     // Makes a line's calls, one after the other.
+    #[tactic(auto, using(interpreter::proofs::Scripts::replies_more, interpreter::proofs::Scripts::replies_none))]
     fn make_calls(&mut self, calls: Calls, line: &[u8]) -> Result<(), Failure>
         requires { HasCall line.now calls.command }
         ensures { OnOk result (self.new.shots ≡ (replies_to calls.times line.now calls.command self.old.shots).shots) }
@@ -83,6 +89,7 @@ impl<W: Write> Replay<W> {
     }
 
     // Answers a line; of one that is too long, the bytes at hand are its last.
+    #[tactic(auto, using(script::proofs::Due::has_call))]
     fn answer_line(&mut self, line: &[u8]) -> Result<(), Failure>
         ensures overlong_stays { self.old.overlong ≡ true → self.new.shots ≡ self.old.shots }
         ensures line_answered { self.old.overlong ≡ false → OnOk result (self.new.shots ≡ (line_reply self.new.lines line.now (line_of line.now) self.old.shots).shots) }
@@ -104,16 +111,13 @@ impl<W: Write> Replay<W> {
     fn answer_lines(&mut self, bytes: &[u8]) -> Result<usize, Failure>
         ensures { IfOk result (λ start. start ≤ length bytes.now) }
     {
-        let mut start = 0;
-        // not a `for`: each turn begins after the line that the one before has found
-        loop {
-            let end = scanning::run_end(Class::Line, bytes, start);
-            if bytes.len() <= end {
-                return Ok(start);
-            }
-            self.answer_line(&bytes[start..end])?;
-            start = end + 1;
+        let Some(last) = bytes.iter().rposition(|b| ends_line(*b)) else {
+            return Ok(0);
+        };
+        for line in bytes[..last].split(|b| ends_line(*b)) {
+            self.answer_line(line)?;
         }
+        Ok(last + 1)
     }
 
     // The script has ended: answers what is left of it, a line without its line feed.
@@ -165,14 +169,13 @@ impl<W: Write> Replay<W> {
 }
 
 // Answers the script, a line at a time.
-fn run(rt: &HostRuntime) -> Result<(), Failure> {
-    let mut reader = rt.stdin();
-    let mut replay = Replay::new(rt.stdout());
+fn run(reader: &mut impl Read, writer: impl Write + Drop) -> Result<(), Failure> {
+    let mut replay = Replay::new(writer);
     let mut buffer = [0u8; ROOM];
     let mut held = 0;
     // a proved loop has to end, and nothing says that a script does
     for _ in 0..u64::MAX {
-        match replay.read_and_answer(&mut reader, &mut buffer, held)? {
+        match replay.read_and_answer(reader, &mut buffer, held)? {
             Some(left) => held = left,
             None => return Ok(()),
         }
@@ -182,7 +185,7 @@ fn run(rt: &HostRuntime) -> Result<(), Failure> {
 
 // Says on standard error why the program ends early: its exit status stays 0.
 fn main(rt: HostRuntime) {
-    if let Err(failure) = run(&rt) {
+    if let Err(failure) = run(&mut rt.stdin(), rt.stdout()) {
         let _ = eprintln!(rt; "replay: {failure}");
     }
 }

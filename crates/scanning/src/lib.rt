@@ -31,7 +31,7 @@ pub fn is_space(b: u8) -> bool
 }
 
 // Whether a byte is of the class.
-fn in_class(class: Class, b: u8) -> bool
+pub fn in_class(class: Class, b: u8) -> bool
     ensures { result ≡ in_class class b }
 {
     match class {

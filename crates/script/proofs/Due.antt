@@ -195,6 +195,10 @@ calls_are_due = record {
   due = λ line command has. (call_due_and_short line command has).1;
 }
 
+-- For callers: a line that is read as calls has their command.
+pub has_call : {line : List ℕ} {calls : SomeCalls} → line_of line ≡ Ok (Some calls) → HasCall line calls.command
+has_call {line} {calls} reads = record { times = calls.times; reads = reads }
+
 -- For callers: how long the words are.
 module _ (is_due : List ℕ → Bool) (line : List ℕ) (word : Word) (has : HasDigits is_due line word) where
   pub digits_short : length (word_in line word) ≤ length line

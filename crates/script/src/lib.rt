@@ -2,8 +2,9 @@
 // a script in words.
 #![tactic(auto)]
 
-ghost use Rattle.std.specs.Prelude.{◌≡◌};
+ghost use Rattle.std.specs.Prelude.{◌≡◌, ok_or};
 ghost use Rattle.words.specs.Words.{Within};
+ghost use Rattle.words.specs.declared.Fault.TheVariants.{NoSuchCall};
 ghost use Rattle.script.specs.Script.{open_at, measure_at, fix_at, colour_at, move_at, name_of, named_at, call_at, times_at, calls_at, text_line, line_of};
 
 use dial::Dial;
@@ -103,18 +104,22 @@ fn read_move(line: &[u8], place: usize) -> Result<Command, Fault>
     Ok(Command::Move(method.value, pixel, target.value))
 }
 
-// The call that a word names.
-#[tactic(auto, using(crate::proofs::Names::name_read, std::proofs::lemmas::Bool::Decides::nat_tests))]
-fn name_of(word: &[u8]) -> Option<Name>
-    ensures { result ≡ name_of word.now }
-{
-    match word {
-        b"open" => Some(Name::Open),
-        b"measure" => Some(Name::Measure),
-        b"fix" => Some(Name::Fix),
-        b"colour" => Some(Name::Colour),
-        b"move" => Some(Name::Move),
-        _ => None,
+impl TryFrom<&[u8]> for Name {
+    type Error = Fault;
+
+    ghost try_from_gives = { λ word name. name ≡ ok_or (name_of word.now) NoSuchCall };
+
+    // The call that a word names.
+    #[tactic(auto, using(crate::proofs::Names::name_read, std::proofs::lemmas::Bool::Decides::nat_tests))]
+    fn try_from(word: &[u8]) -> Result<Name, Fault> {
+        match word {
+            b"open" => Ok(Name::Open),
+            b"measure" => Ok(Name::Measure),
+            b"fix" => Ok(Name::Fix),
+            b"colour" => Ok(Name::Colour),
+            b"move" => Ok(Name::Move),
+            _ => Err(Fault::NoSuchCall),
+        }
     }
 }
 
@@ -137,7 +142,7 @@ fn read_call(line: &[u8], place: usize) -> Result<Command, Fault>
     ensures { result ≡ call_at line.now place }
 {
     let word = words::read_word(line, place)?;
-    let name = name_of(word.bytes_in(line)).ok_or(Fault::NoSuchCall)?;
+    let name = Name::try_from(word.bytes_in(line))?;
     read_named(name, line, word.end)
 }
 

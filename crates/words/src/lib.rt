@@ -38,6 +38,20 @@ pub struct Found<T> {
     pub end: usize,
 }
 
+impl<T> Found<T> {
+    // The same place, with what is made of the value.
+    pub fn map<U, F: FnOnce(T) -> U>(self, make: F) -> Found<U>
+        requires { F.pre make self.value }
+        ensures value { F.post make self.value result.value }
+        ensures end { result.end ≡ self.end }
+    {
+        Found {
+            value: make(self.value),
+            end: self.end,
+        }
+    }
+}
+
 // Why a line is no call.
 #[derive(Clone, Copy, Debug, PartialEq, Eq)]
 pub enum Fault {

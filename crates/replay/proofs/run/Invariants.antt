@@ -4,4 +4,4 @@ use Rattle.script.specs.Script.{line_limit}
 use Rattle.replay.proofs.run.Given as goal
 
 abbrev pub invariant-loop : goal.invariant-loop
-invariant-loop l = l.held ≤ line_limit
+invariant-loop g l = l.held ≤ line_limit

@@ -12,7 +12,8 @@ use words::Fault;
 pub const BYTE_LIMIT: usize = script::LINE_LIMIT / 2;
 
 // An output of so many bytes has room for every answer. An array's type in its place would ask more of callers, and a part of it handed
-// back in place of a length would leave unsaid what the whole output then holds.
+// back in place of a length would leave unsaid what the whole output then holds. A writer in its place would have each caller make one and
+// read the length off it, and each clause on the room speak of its place too.
 pub const TEXT_LIMIT: usize = script::LINE_LIMIT + 64;
 
 // Writes a number and a line feed at the start of the output, and hands back how many bytes that are.

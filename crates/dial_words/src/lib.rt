@@ -45,7 +45,7 @@ fn float_of(word: &[u8]) -> Option<f32>
     Some(float_of_digits(word))
 }
 
-// The float that follows a place.
+// The float that follows a place. (`words::read_number` reads numbers so, and says why it is another function.)
 #[tactic(auto, unfolding(crate::specs::DialWords::float_at))]
 pub fn read_float(line: &[u8], place: usize) -> Result<Found<f32>, Fault>
     ensures { result ≡ float_at line.now place }

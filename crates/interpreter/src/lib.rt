@@ -14,14 +14,15 @@ use dial::Dial;
 use script::Command;
 use shot::{Answer, Shot};
 
-// The shots of a script, by their numbers from 1 to 4. (Outputs are slices with a clause on their room, as `answer` has them for its callers:
-// an array would have to be cut out of theirs.)
+// The shots of a script, by their numbers from 1 to 4. (Outputs are slices with a clause on their room, as `answer` has them for its
+// callers: an array would have to be cut out of theirs.)
 #[derive(Clone, Copy)]
 pub struct Shots {
     all: [Shot; 4],
 }
 
-// The place of a shot with a number from 1 to 4. (A line that is read as a call has no other.)
+// The place of a shot: those of a script have the numbers 1 to 4, those of the array the places 0 to 3. (A line that is read as a call has
+// no other number. `Command` has room for any, so the rest have the last place, and no clause has to ask for one of the four.)
 fn place_of(number: u32) -> usize
     ensures { (result ≡ place_of number) × (result < 4) }
 {
@@ -119,7 +120,8 @@ impl Shots {
         self.keep_answer(number, answer, output)
     }
 
-    // Colours bytes, and answers with what the destination then holds.
+    // Colours bytes, and answers with what the destination then holds. (The arguments are those of `book::colour`, one by one: nothing else
+    // would take a struct of them.)
     fn colour_bytes(
         &mut self,
         number: u32,

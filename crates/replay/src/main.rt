@@ -52,7 +52,8 @@ struct Replay<W> {
     shots: Shots,
     // how many lines have ended
     lines: u64,
-    // whether the line at hand is too long, so that its bytes so far were thrown away
+    // whether the line at hand is too long, so that its bytes so far were thrown away (a flag: the rest of the line is held as any line
+    // is, so an enum of the two states would carry nothing)
     overlong: bool,
 }
 
@@ -148,7 +149,8 @@ impl<W: Write> Replay<W> {
     fn read_and_answer(
         &mut self,
         reader: &mut impl Read,
-        // a slice: the length of an array would have to stand in the invariant of `run` as well
+        // a slice: the length of an array would have to stand in the invariant of `run` as well. How many bytes of it are held is a number
+        // beside it, since `read` takes the room that is left as a slice
         buffer: &mut [u8],
         held: usize,
     ) -> Result<Option<usize>, Failure>

@@ -3,6 +3,7 @@ use Rattle.std.proofs.Common.{◌≡◌, ℕ, suc, ◌+◌, ◌≤◌, ◌<◌, 
 use Rattle.std.specs.List.{prefix_len}
 use Rattle.std.proofs.lemmas.List.Sums.{prefix_len-le-length, prefix_len_passes, prefix_len-drop_all}
 use Rattle.std.proofs.lemmas.List.Folds.{length-prefix_len}
+use Rattle.std.proofs.lemmas.Slice.{between_to_end}
 use lib.Seq.{get_or-take}
 use borrow.Table.Steps.{cases}
 use Rattle.tables.specs.Table.{at}
@@ -49,3 +50,6 @@ module _ (test : ℕ → Bool) where
   run_all bytes i h =
       let less : i < run_length test bytes = subst (λ n. i < n) (length_run bytes) h in
       ap test (get_or-take (run_length test bytes) bytes i 0 less) ∙ run_passes bytes i less
+
+-- what shows where a run ends
+pub ruleset ends = (prefix_len-le-length, run_is, run_past, between_to_end)

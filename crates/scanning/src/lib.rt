@@ -52,6 +52,7 @@ fn run_length(class: Class, bytes: &[u8]) -> usize
 }
 
 // The place after the bytes of the class that stand at `place`.
+#[tactic(auto, using(crate::proofs::Runs::ends))]
 pub fn run_end(class: Class, bytes: &[u8], place: usize) -> usize
     ensures { result ≡ place + run_length (in_class class) (drop place bytes.now) }
 {

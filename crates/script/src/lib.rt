@@ -185,7 +185,7 @@ fn read_text(line: &[u8]) -> Result<Option<Calls>, Fault>
 
 // What a line is read as: `None` where it is white space, or a comment, and nothing else. A comment begins with # and reaches to the
 // end of the line.
-#[tactic(auto, using(crate::proofs::Comments::text_within), unfolding(crate::specs::Script::line_of))]
+#[tactic(auto, using(crate::proofs::Comments::cuts), unfolding(crate::specs::Script::line_of))]
 pub fn read_line(line: &[u8]) -> Result<Option<Calls>, Fault>
     ensures { result ≡ line_of line.now }
 {

@@ -18,7 +18,8 @@ pub fn read_decimal(digits: &[u8]) -> u64
     number
 }
 
-// A lent run of bytes, and the place in it up to which text is written.
+// A lent run of bytes, and the place in it up to which text is written. (std's `Cursor` answers each write by a Result, also where there is
+// room.)
 #[derive(Drop)]
 pub struct Writer<'a> {
     pub run: &'a mut [u8],
@@ -48,13 +49,15 @@ impl<'a> Writer<'a> {
 
     // Writes n in decimal.
     // Of `write!` it cannot be shown that it does not fail, and `to_string` allocates.
+    #[tactic(auto, using(crate::proofs::Decimal::decimal_one, crate::proofs::Decimal::decimal_more, crate::proofs::Runs::wrote_more, crate::proofs::Writing::tenth_shorter))]
     pub fn number(&mut self, n: u64)
         requires { self.old.end + length (decimal n) ≤ length self.old.run.now }
         ensures { Wrote (decimal n) self.old self.new }
     {
-        if 10 <= n {
-            self.number(n / 10);
+        if n < 10 {
+            return self.text(&[b'0' + n as u8]);
         }
+        self.number(n / 10);
         self.text(&[b'0' + (n % 10) as u8]);
     }
 }

@@ -40,7 +40,9 @@ pub struct Found<T> {
 
 impl<T> Found<T> {
     // The same place, with what is made of the value.
-    pub fn map<U, F: FnOnce(T) -> U>(self, make: F) -> Found<U>
+    pub fn map<U, F>(self, make: F) -> Found<U>
+    where
+        F: FnOnce(T) -> U,
         requires { F.pre make self.value }
         ensures value { F.post make self.value result.value }
         ensures end { result.end ≡ self.end }

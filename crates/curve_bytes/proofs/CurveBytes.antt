@@ -128,12 +128,11 @@ order_tested curve false answer =
     sym (false_from_ne_true (none_falls 0 curve) (λ e. omega (arith, falls 0, (falls_sound 0 curve e).1 k (k + 1) (omega arith) less)))
 
 -- what the test of their range says
-exceeds_sound : (entries : List ℕ) → none_exceeds entries ≡ true → (k : ℕ) → k < length entries → at entries k ≤ 765
+exceeds_sound : (entries : List ℕ) → none_exceeds entries ≡ true → (k : ℕ) → at entries k ≤ 765
 unfolding none_exceeds
-exceeds_sound [] e k h = absurd (omega arith)
-exceeds_sound (entry ∷ entries) e zero h = leb-true entry 765 (and_parts (leb entry 765) (none_exceeds entries) e).0
-exceeds_sound (entry ∷ entries) e (suc k) h =
-    exceeds_sound entries (and_parts (leb entry 765) (none_exceeds entries) e).1 k (omega arith)
+exceeds_sound [] e k = omega arith
+exceeds_sound (entry ∷ entries) e zero = leb-true entry 765 (and_parts (leb entry 765) (none_exceeds entries) e).0
+exceeds_sound (entry ∷ entries) e (suc k) = exceeds_sound entries (and_parts (leb entry 765) (none_exceeds entries) e).1 k
 
 exceeds_complete : (entries : List ℕ) → ((k : ℕ) → k < length entries → at entries k ≤ 765) → none_exceeds entries ≡ true
 unfolding none_exceeds
@@ -146,18 +145,25 @@ risen_in_range : (curve : List ℕ) → length curve ≡ 766 → at curve 765 �
 risen_in_range curve size white e =
     exceeds_complete curve (λ k h. omega (arith, (falls_sound 0 curve e).1 k 765 (omega arith) (omega arith)))
 
+-- the entries of an accepted curve are in range
+pub accepted_in_range : (curve : List ℕ) (s : ℕ) → keeps_curve_rule curve ≡ true → at curve s ≤ 765
+unfolding keeps_curve_rule
+accepted_in_range curve s e =
+    let (first, rises) = and_parts (eqb (at curve 0) 0 && eqb (at curve 765) 765 && none_exceeds curve) (none_falls 0 curve) e in
+    exceeds_sound curve (and_parts (eqb (at curve 0) 0 && eqb (at curve 765) 765) (none_exceeds curve) first).1 s
+
 -- the whole test
 pub curve_sound : (curve : List ℕ) → length curve ≡ 766 → keeps_curve_rule curve ≡ true → IsToneCurve curve
 unfolding keeps_curve_rule
 curve_sound curve size e =
     let (first, rises) = and_parts (eqb (at curve 0) 0 && eqb (at curve 765) 765 && none_exceeds curve) (none_falls 0 curve) e in
-    let (ends, range) = and_parts (eqb (at curve 0) 0 && eqb (at curve 765) 765) (none_exceeds curve) first in
+    let (ends, _) = and_parts (eqb (at curve 0) 0 && eqb (at curve 765) 765) (none_exceeds curve) first in
     let (black, white) = and_parts (eqb (at curve 0) 0) (eqb (at curve 765) 765) ends in
     record {
       size = size;
       black = eqb-true (at curve 0) 0 black;
       white = eqb-true (at curve 765) 765 white;
-      range = λ s h. exceeds_sound curve range s (omega arith);
+      range = λ s h. accepted_in_range curve s e;
       never_falls = λ s t le h. (falls_sound 0 curve rises).1 s t le (omega arith);
     }
 

@@ -1,8 +1,8 @@
 // A curve at the host's boundary (document 01, "The panel's host"): written as bytes, read back, and the rule by which one is accepted.
 #![tactic(auto)]
 
-ghost use Rattle.std.specs.Prelude.{◌≡◌, length};
-ghost use Rattle.curve_bytes.specs.CurveBytes.{curve_length, curve_bytes, curve_entries, keeps_curve_rule};
+ghost use Rattle.std.specs.Prelude.{◌≡◌};
+ghost use Rattle.curve_bytes.specs.CurveBytes.{curve_bytes, curve_entries, keeps_curve_rule};
 
 use std::array;
 
@@ -10,9 +10,8 @@ use std::array;
 pub const CURVE_LENGTH: usize = 1532;
 
 // Writes a curve out: entry 0 first, two bytes an entry, low byte first.
-pub fn write_curve(curve: [u16; 766], bytes: &mut [u8])
-    requires { length bytes.old ≡ curve_length }
-    ensures { bytes.new ≡ curve_bytes curve }
+pub fn write_curve(curve: &[u16; 766], bytes: &mut [u8; CURVE_LENGTH])
+    ensures { bytes.new ≡ curve_bytes curve.now }
 {
     // The contract of `as_chunks_mut` leaves unsaid what the slice holds at the end, and an array's `map` takes many times as long.
     for (k, entry) in curve.iter().enumerate() {
@@ -23,8 +22,7 @@ pub fn write_curve(curve: [u16; 766], bytes: &mut [u8])
 }
 
 // Reads a curve back.
-pub fn read_curve(bytes: &[u8]) -> [u16; 766]
-    requires { length bytes.now ≡ curve_length }
+pub fn read_curve(bytes: &[u8; CURVE_LENGTH]) -> [u16; 766]
     ensures { result ≡ curve_entries bytes.now }
 {
     let (pairs, _) = bytes.as_chunks::<2>();
@@ -32,8 +30,8 @@ pub fn read_curve(bytes: &[u8]) -> [u16; 766]
 }
 
 // Whether the entries keep the rule by which a curve is accepted. Where the last is 765 and none falls, none exceeds 765.
-pub fn keeps_curve_rule(curve: [u16; 766]) -> bool
-    ensures { result ≡ keeps_curve_rule curve }
+pub fn keeps_curve_rule(curve: &[u16; 766]) -> bool
+    ensures { result ≡ keeps_curve_rule curve.now }
 {
     curve[0] == 0 && curve[765] == 765 && curve.is_sorted()
 }

@@ -23,11 +23,11 @@ fn write_curve(strip: &[u8], choice: u32, bytes: &mut [u8]) -> Result<(), Refusa
     ensures { curve_outcome (record { strip = strip.now; choice = choice; curve = bytes.old }) ≡ record { number = number_in result; bytes = bytes.new } }
 {
     let choice = Choice::try_from(choice)?;
-    if bytes.len() != curve_bytes::CURVE_LENGTH {
+    let Some(bytes) = bytes.as_mut_array() else {
         return Err(Refusal::CurveLengthWrong);
-    }
+    };
     let entries = strip_curve::curve_of_strip(choice, strip)?;
-    curve_bytes::write_curve(entries, bytes);
+    curve_bytes::write_curve(&entries, bytes);
     Ok(())
 }
 
@@ -39,15 +39,15 @@ pub fn cube_balance_colour(curve: &[u8], method: u32, source: &[u8], destination
 }
 
 // The same, as a `Result`.
-#[tactic(auto, unfolding(crate::specs::Host::colour_outcome))]
+#[tactic(auto, using(curve_bytes::proofs::CurveBytes::accepted_in_range), unfolding(crate::specs::Host::colour_outcome))]
 fn colour(curve: &[u8], method: u32, source: &[u8], destination: &mut [u8]) -> Result<(), Refusal>
     ensures { colour_outcome (record { curve = curve.now; method = method; source = source.now; destination = destination.old }) ≡ record { number = number_in result; bytes = destination.new } }
 {
-    if curve.len() != curve_bytes::CURVE_LENGTH {
+    let Some(curve) = curve.as_array() else {
         return Err(Refusal::CurveLengthWrong);
-    }
+    };
     let entries = curve_bytes::read_curve(curve);
-    if !curve_bytes::keeps_curve_rule(entries) {
+    if !curve_bytes::keeps_curve_rule(&entries) {
         return Err(Refusal::CurveRuleBroken);
     }
     let method = Method::try_from(method)?;

@@ -7,11 +7,11 @@ use Rattle.curve_bytes.proofs.CurveBytes.{length_bytes, low_at, high_at}
 use Rattle.curve_bytes.proofs.write_curve.Goals as goal
 
 pub loop-k-init : goal.loop-k-init
-loop-k-init c = filled_start _ 1532 _ c.requires
+loop-k-init c = filled_start _ 1532 _ (search rules)
 
 pub loop-k-preserved : goal.loop-k-preserved
 loop-k-preserved c =
-    let curve = c.args.curve in
+    let curve = c.args.curve.now in
     let k = c.loop-k.k in
     let small : at curve k < 2 ^ 16 = search rules in
     let first : get_or c.to_le_bytes.result 0 0 ≡ at (curve_bytes curve) (2 * k) =
@@ -24,6 +24,6 @@ loop-k-preserved c =
 
 pub returns : goal.returns
 returns c =
-    let curve = c.args.curve in
+    let curve = c.args.curve.now in
     let size : length curve ≡ 766 = search rules in
     filled_copy (curve_bytes curve) 1532 _ c.loop-k.invariant (omega arith) (omega (arith, length_bytes curve))

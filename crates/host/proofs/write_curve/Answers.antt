@@ -50,16 +50,16 @@ module _ (c : CurveCall) (choice : Choice) (known : (is_choice c.choice ≡ true
 pub returns-in_err-entries : goal.returns-in_err-entries
 returns-in_err-entries c =
     let p = err_from_is_err_and c.from_residual-in_err-entries.result c.from_residual-in_err-entries.ensures.1 in
-    rw (p.1, p.2)
+    rw (p.1, p.2, c.in-Some.ensures.cases.same)
     (refused (record { strip = c.args.strip.now; choice = c.args.choice; curve = c.args.bytes.now }) _ c.in_ok-choice.ensures
-    c.if-bytes-ne-CURVE_LENGTH.false
+    c.in-Some.ensures.cases.long
     _
     c.in_err-entries.ensures)
 
 pub returns : goal.returns
 returns c =
     accepted (record { strip = c.args.strip.now; choice = c.args.choice; curve = c.args.bytes.now }) _ c.in_ok-choice.ensures
-    c.if-bytes-ne-CURVE_LENGTH.false
+    c.in-Some.ensures.cases.long
     _
     _
     c.in_ok-entries.ensures

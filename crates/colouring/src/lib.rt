@@ -2,18 +2,35 @@
 // dial (document 02, wish 1).
 #![tactic(auto)]
 
-ghost use Rattle.std.specs.Prelude.{◌≡◌, ◌≤◌, replicate};
+ghost use Rattle.std.specs.Prelude.{◌≡◌, ◌≤◌, replicate, IfOk};
+ghost use Rattle.refusal.specs.Numbers.{number_in};
+ghost use Rattle.refusal.specs.Refusal.{first_of};
 ghost use Rattle.curve.specs.Curve.{EntriesInRange};
 ghost use Rattle.lines.specs.Line.{line_at};
 ghost use Rattle.pixel.specs.Move.{intensity};
 ghost use Rattle.settings.specs.Setting.{SettingInRange};
 ghost use Rattle.settings.specs.declared.Setting.TheVariants.{Mix};
-ghost use Rattle.colouring.specs.Colouring.{coloured_strip, coloured_under};
+ghost use Rattle.colouring.specs.Colouring.{size_checks, coloured_strip, coloured_under};
 ghost use Rattle.colouring.specs.Inner.{SameSize, along_lines};
 
 use lines::FixedLine;
 use pixel::{Method, Pixel};
+use refusal::Refusal;
 use settings::Setting;
+
+// 2, 8: the first that applies to the runs that a colouring brings.
+pub fn check_sizes(source: &[u8], destination: &[u8]) -> Result<(), Refusal>
+    ensures number { number_in result ≡ first_of (size_checks source.now destination.now) }
+    ensures sizes { IfOk result (λ _. SameSize source.now destination.now) }
+{
+    if source.len() % 3 != 0 {
+        return Err(Refusal::NotWholePixels);
+    }
+    if destination.len() != source.len() {
+        return Err(Refusal::LengthsDiffer);
+    }
+    Ok(())
+}
 
 // The line of a pixel's intensity. It is read field by field: read whole, it would be one number that is then split.
 fn line_for(lines: &[FixedLine; 766], p: Pixel) -> FixedLine

@@ -2,9 +2,12 @@
 // numbers. They keep nothing between calls. The crate `host_c` hands them to C.
 #![tactic(auto)]
 
-ghost use Rattle.std.specs.Prelude.{◌≡◌};
+ghost use Rattle.std.specs.Prelude.{◌≡◌, IfOk};
 ghost use Rattle.refusal.specs.Numbers.{number_in};
-ghost use Rattle.host.specs.Host.{curve_outcome, colour_outcome};
+ghost use Rattle.refusal.specs.Refusal.{first_of};
+ghost use Rattle.curve.specs.Curve.{EntriesInRange};
+ghost use Rattle.curve_bytes.specs.CurveBytes.{curve_entries};
+ghost use Rattle.host.specs.Host.{curve_outcome, bytes_checks, colour_outcome};
 
 use curve::Choice;
 use pixel::Method;
@@ -31,17 +34,12 @@ fn write_curve(strip: &[u8], choice: u32, bytes: &mut [u8]) -> Result<(), Refusa
     Ok(())
 }
 
-// Colours the source into the destination by a curve of 1,532 bytes. Refused: 10, 11, 7, 2, 8.
-pub fn cube_balance_colour(curve: &[u8], method: u32, source: &[u8], destination: &mut [u8]) -> u32
-    ensures { colour_outcome (record { curve = curve.now; method = method; source = source.now; destination = destination.old }) ≡ record { number = result; bytes = destination.new } }
-{
-    refusal::number_in(&colour(curve, method, source, destination))
-}
-
-// The same, as a `Result`.
-#[tactic(auto, using(curve_bytes::proofs::CurveBytes::accepted_in_range), unfolding(crate::specs::Host::colour_outcome))]
-fn colour(curve: &[u8], method: u32, source: &[u8], destination: &mut [u8]) -> Result<(), Refusal>
-    ensures { colour_outcome (record { curve = curve.now; method = method; source = source.now; destination = destination.old }) ≡ record { number = number_in result; bytes = destination.new } }
+// The entries of a curve that a colour call brings. Refused: 10, 11.
+#[tactic(auto, using(curve_bytes::proofs::CurveBytes::accepted_in_range))]
+fn accepted_entries(curve: &[u8]) -> Result<[u16; 766], Refusal>
+    ensures number { number_in result ≡ first_of (bytes_checks curve.now) }
+    ensures entries { IfOk result (λ entries. entries ≡ curve_entries curve.now) }
+    ensures in_range { IfOk result EntriesInRange }
 {
     let Some(curve) = curve.as_array() else {
         return Err(Refusal::CurveLengthWrong);
@@ -50,14 +48,24 @@ fn colour(curve: &[u8], method: u32, source: &[u8], destination: &mut [u8]) -> R
     if !curve_bytes::keeps_curve_rule(&entries) {
         return Err(Refusal::CurveRuleBroken);
     }
+    Ok(entries)
+}
+
+// Colours the source into the destination by a curve of 1,532 bytes. Refused: 10, 11, 7, 2, 8.
+pub fn cube_balance_colour(curve: &[u8], method: u32, source: &[u8], destination: &mut [u8]) -> u32
+    ensures { colour_outcome (record { curve = curve.now; method = method; source = source.now; destination = destination.old }) ≡ record { number = result; bytes = destination.new } }
+{
+    refusal::number_in(&colour(curve, method, source, destination))
+}
+
+// The same, as a `Result`.
+#[tactic(auto, unfolding(crate::specs::Host::colour_outcome))]
+fn colour(curve: &[u8], method: u32, source: &[u8], destination: &mut [u8]) -> Result<(), Refusal>
+    ensures { colour_outcome (record { curve = curve.now; method = method; source = source.now; destination = destination.old }) ≡ record { number = number_in result; bytes = destination.new } }
+{
+    let entries = accepted_entries(curve)?;
     let method = Method::try_from(method)?;
-    // a shot's colouring checks the two lengths too: each call has its checks in the order of its own list
-    if source.len() % 3 != 0 {
-        return Err(Refusal::NotWholePixels);
-    }
-    if destination.len() != source.len() {
-        return Err(Refusal::LengthsDiffer);
-    }
+    colouring::check_sizes(source, destination)?;
     colouring::colour_strip(&entries, method, source, destination);
     Ok(())
 }

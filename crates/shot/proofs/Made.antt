@@ -21,6 +21,7 @@ use Rattle.curve.specs.Choices.{is_choice, choice_of}
 use Rattle.curve.specs.Curve.{tone_curve, EntriesInRange}
 use Rattle.curve.specs.declared.Choice.{Choice}
 use Rattle.colouring.specs.Colouring.{coloured_under}
+use Rattle.colouring.specs.Inner.{SameSize}
 use Rattle.shot.specs.Kept.{kept, entries}
 use Rattle.shot.specs.Reachable.{Reachable}
 use Rattle.shot.specs.Shot.{measured, fixed_with, coloured}
@@ -80,14 +81,13 @@ module _ (x : Inside) (curve : List ℕ) (is : x.curve ≡ Some curve) where
 
   -- and what is written by it is what colouring writes
   pub colours_made : (number : ℕ) (method : Method) (dial : Dial) (setting : Setting) (source destination bytes : List ℕ)
-      → is_method number ≡ true → method ≡ method_of number → length source % 3 ≡ 0 → length destination ≡ length source
-      → Ok setting ≡ decoded dial → bytes ≡ coloured_under setting method curve source
+      → is_method number ≡ true → method ≡ method_of number → SameSize source destination → Ok setting ≡ decoded dial → bytes ≡ coloured_under setting method curve source
       → coloured (kept x) (record { method = number; dial = dial; source = source; destination = destination })
       ≡ record { answer = record { shot = kept x; number = 0 }; bytes = bytes }
-  colours_made number method dial setting source destination bytes known named whole same set written =
+  colours_made number method dial setting source destination bytes known named sizes set written =
       rw (
         coloured_is (kept x) (record { method = number; dial = dial; source = source; destination = destination })
-            (record { is_fixed = has_curve; known = known; whole = eq-eqb _ _ whole; same = same })
+            (record { is_fixed = has_curve; known = known; whole = sizes.whole; same = sizes.same })
             (sym (ap refusal_of set)),
         written,
         named,

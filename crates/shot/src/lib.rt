@@ -155,12 +155,7 @@ impl Shot {
             return Err(Refusal::NotFixed);
         };
         let method = Method::try_from(method)?;
-        if source.len() % 3 != 0 {
-            return Err(Refusal::NotWholePixels);
-        }
-        if destination.len() != source.len() {
-            return Err(Refusal::LengthsDiffer);
-        }
+        colouring::check_sizes(source, destination)?;
         let setting = Setting::try_from(dial)?;
         colouring::colour_under(setting, curve, method, source, destination);
         Ok(())

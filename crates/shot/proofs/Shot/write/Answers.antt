@@ -10,4 +10,4 @@ returns c =
     let known = c.in_ok-method.ensures in
     rw (← c.self.view_is)
     (colours_made c.self.inside c.in-Some.curve c.in-Some.is c.args.method _ c.args.dial _ c.args.source.now c.args.destination.now _ known.0 known.1
-    c.if-source-ne0.false c.if-destination-source.false c.in_ok-setting.ensures c.colour_under.ensures)
+    c.in_ok-check_sizes.ensures.sizes c.in_ok-setting.ensures c.colour_under.ensures)

@@ -18,7 +18,7 @@ from pages import DOCS, SPAN, listed, read, report, spans, table  # noqa: E402
 PAGE = DOCS / "PROMISES.md"
 CRATES = pathlib.Path("crates")
 PUBLIC = re.compile(r'^ *pub (?:extern "C" )?fn (\w+)', re.M)
-FUNCTION = re.compile(r'^ *pub (?:extern "C" )?fn (\w+)(?:<(?:->|[^>])*>)?\(([^)]*)\)[^{]*?((?:\n\s+(?:requires|ensures) .*)*)\n\s*\{', re.M)
+FUNCTION = re.compile(r'^ *pub (?:extern "C" )?fn (\w+)(?:<[^>]*>)?\(([^)]*)\)[^{]*?((?:\n\s+(?:requires|ensures) .*)*)\n\s*\{', re.M)
 IMPL = re.compile(r"^impl(?:<[^>]*>)? (\w+)", re.M)
 CALL = re.compile(r"(?:(\w+)(?:::|\.))(\w+)\(([^)]*)\)")
 CONVERSION = re.compile(r"^impl (?:Try)?From<([^>]+)> for ([\w\[\]; ]+) \{\n(?:    type Error = \w+;\n\n)?    ghost (?:try_)?from_gives = \{ (.*) \};$", re.M)

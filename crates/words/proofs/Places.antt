@@ -2,7 +2,7 @@
 use mathlib.Core.Path.{◌≡◌, refl}
 use mathlib.Core.Bool.{Bool}
 use mathlib.Core.List.{List}
-use Prim.Native.Nat.{ℕ, ◌+◌, ◌≤◌}
+use Prim.Native.Nat.{ℕ, ◌+◌}
 use native.Mathlib.Omega.{arith}
 use borrow.Author.Tests.{eqb-false}
 use borrow.Table.Steps.{cases}
@@ -13,11 +13,6 @@ use Rattle.scanning.specs.Scanning.{in_class, run_length}
 use Rattle.scanning.specs.declared.Class.TheVariants.{Space, Word as WordByte}
 use Rattle.scanning.proofs.Runs.{run_within}
 use Rattle.words.specs.Words.{Within, word_at}
-
--- a scan from a place within the line ends within it
-pub scan_within : (test : ℕ → Bool) (line : List ℕ) {place end : ℕ} → end ≡ place + run_length test (drop place line) → place ≤ length line
-    → end ≤ length line
-scan_within test line {place} found within = omega (arith, found, within, run_within test (drop place line), length-drop place line)
 
 -- a word of at least one byte lies within its line
 pub found_within : (test : ℕ → Bool) (line : List ℕ) {start end : ℕ} → end ≡ start + run_length test (drop start line) → (start ≡ end → ⊥)

@@ -116,8 +116,8 @@ fn number_of(word: &[u8]) -> Option<u32>
     u32::try_from(text::read_decimal(word)).ok()
 }
 
-// The number that follows a place. (`dial_words` reads floats so. One function for both would be bounded by a trait of what is read from a
-// word, and `u32` and `f32` would each need a type of this project around them, so that both crates may implement it.)
+// The number that follows a place. (`dial_words` reads floats so. One function for both would be bounded by a trait of this crate, which
+// `dial_words` may not implement for `f32`: it would need a type of its own around the float.)
 #[tactic(auto, unfolding(crate::specs::Words::number_at))]
 pub fn read_number(line: &[u8], place: usize) -> Result<Found<u32>, Fault>
     ensures { result ≡ number_at line.now place }

@@ -5,7 +5,6 @@
 ghost use Rattle.std.specs.Prelude.{◌≡◌, ◌≤◌, replicate, IfOk};
 ghost use Rattle.refusal.specs.Numbers.{number_in};
 ghost use Rattle.refusal.specs.Refusal.{first_of};
-ghost use Rattle.curve.specs.Curve.{EntriesInRange};
 ghost use Rattle.lines.specs.Line.{line_at};
 ghost use Rattle.pixel.specs.Move.{intensity};
 ghost use Rattle.settings.specs.Setting.{SettingInRange};
@@ -13,7 +12,7 @@ ghost use Rattle.settings.specs.declared.Setting.TheVariants.{Mix};
 ghost use Rattle.colouring.specs.Colouring.{size_checks, coloured_strip, coloured_under};
 ghost use Rattle.colouring.specs.Inner.{SameSize, along_lines};
 
-use lines::FixedLine;
+use lines::{FixedLine, Targets};
 use pixel::{Method, Pixel};
 use refusal::Refusal;
 use settings::Setting;
@@ -68,26 +67,26 @@ fn colour_by_lines(lines: &[FixedLine; 766], source: &[u8], destination: &mut [u
     writing::write_pixel(line_for(lines, p), p, destination, last);
 }
 
-// Every pixel of the source, moved to the curve's entry for its intensity, at the same place of the destination. Here and below
-// `EntriesInRange` and `SameSize` stay clauses: a type for either would be one that every caller makes of its own array or slices first.
+// Every pixel of the source, moved to the curve's entry for its intensity, at the same place of the destination. Here and below `SameSize`
+// stays a clause: with the two runs in a struct each function would have to say, in a clause in its place, that the destination in it stays
+// the one that was lent.
 #[tactic(auto, using(crate::proofs::Lines::lines_colour))]
-pub fn colour_strip(curve: &[u16; 766], method: Method, source: &[u8], destination: &mut [u8])
-    requires entries_in_range { EntriesInRange curve.now }
-    requires same_size { SameSize source.now destination.old }
-    ensures { destination.new ≡ coloured_strip method curve.now source.now }
+pub fn colour_strip(targets: Targets, method: Method, source: &[u8], destination: &mut [u8])
+    requires { SameSize source.now destination.old }
+    ensures { destination.new ≡ coloured_strip method targets.entry.entries.now source.now }
 {
-    colour_by_lines(&lines::lines_of(curve, method), source, destination);
+    colour_by_lines(&lines::lines_of(targets, method), source, destination);
 }
 
-// The full balance of every pixel of the source, mixed with the source by k / 256.
+// The full balance of every pixel of the source, mixed with the source by k / 256. (A number with a clause, as in `mix_bytes`: a type with the
+// bound would be made here of the setting's number, and taken apart there.)
 #[tactic(auto, using(crate::proofs::Strips::mix_mixes, crate::proofs::Strips::amount_one_is_full_balance))]
-fn colour_mixed(k: u32, curve: &[u16; 766], method: Method, source: &[u8], destination: &mut [u8])
+fn colour_mixed(k: u32, targets: Targets, method: Method, source: &[u8], destination: &mut [u8])
     requires k_bound { k ≤ 256 }
-    requires entries_in_range { EntriesInRange curve.now }
     requires same_size { SameSize source.now destination.old }
-    ensures { destination.new ≡ coloured_under (Mix k) method curve.now source.now }
+    ensures { destination.new ≡ coloured_under (Mix k) method targets.entry.entries.now source.now }
 {
-    colour_strip(curve, method, source, destination);
+    colour_strip(targets, method, source, destination);
     // At amount 1 the mix would leave it as it is.
     if k == settings::FULL {
         return;
@@ -103,26 +102,26 @@ fn colour_held(v: u32, method: Method, source: &[u8], destination: &mut [u8])
     ensures { destination.new ≡ coloured_strip method (replicate 766 v) source.now }
 {
     let held = [v as u16; 766];
-    colour_strip(&held, method, source, destination);
+    let targets = Targets { entries: &held };
+    colour_strip(targets, method, source, destination);
 }
 
 // Every pixel of the source, coloured under a setting of the dial, at the same place of the destination.
 #[tactic(auto, using(crate::proofs::Strips::off_copies, crate::proofs::Strips::held_strip))]
 pub fn colour_under(
     setting: Setting,
-    curve: &[u16; 766],
+    targets: Targets,
     method: Method,
     source: &[u8],
     destination: &mut [u8],
 )
     requires setting_in_range { SettingInRange setting }
-    requires entries_in_range { EntriesInRange curve.now }
     requires same_size { SameSize source.now destination.old }
-    ensures { destination.new ≡ coloured_under setting method curve.now source.now }
+    ensures { destination.new ≡ coloured_under setting method targets.entry.entries.now source.now }
 {
     match setting {
         Setting::Off => destination.copy_from_slice(source),
-        Setting::Mix(k) => colour_mixed(k, curve, method, source, destination),
+        Setting::Mix(k) => colour_mixed(k, targets, method, source, destination),
         Setting::Hold(v) => colour_held(v, method, source, destination),
     }
 }

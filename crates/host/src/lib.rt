@@ -10,6 +10,7 @@ ghost use Rattle.curve_bytes.specs.CurveBytes.{curve_entries};
 ghost use Rattle.host.specs.Host.{curve_outcome, bytes_checks, colour_outcome};
 
 use curve::Choice;
+use lines::Targets;
 use pixel::Method;
 use refusal::Refusal;
 
@@ -66,6 +67,7 @@ fn colour(curve: &[u8], method: u32, source: &[u8], destination: &mut [u8]) -> R
     let entries = accepted_entries(curve)?;
     let method = Method::try_from(method)?;
     colouring::check_sizes(source, destination)?;
-    colouring::colour_strip(&entries, method, source, destination);
+    let targets = Targets { entries: &entries };
+    colouring::colour_strip(targets, method, source, destination);
     Ok(())
 }

@@ -90,11 +90,17 @@ fn fixed_line_of(method: Method, s: u64, f: u64) -> FixedLine
     in_fixed_point(pixel::line_of(method, s, f))
 }
 
+// The intensity that the pixels of each intensity go to: a curve's entries, none above 765.
+#[derive(Clone, Copy)]
+pub struct Targets<'a> {
+    pub entries: &'a [u16; 766],
+    ghost in_range: { EntriesInRange entries.now },
+}
+
 // The line of every intensity.
-pub fn lines_of(curve: &[u16; 766], method: Method) -> [FixedLine; 766]
-    requires { EntriesInRange curve.now }
-    ensures { LinesOf method curve.now result }
+pub fn lines_of(targets: Targets, method: Method) -> [FixedLine; 766]
+    ensures { LinesOf method targets.entry.entries.now result }
 {
     // No `From` leads from `usize` to `u64`.
-    array::from_fn(|s| fixed_line_of(method, s as u64, u64::from(curve[s])))
+    array::from_fn(|s| fixed_line_of(method, s as u64, u64::from(targets.entries[s])))
 }

@@ -8,6 +8,7 @@ ghost use Rattle.shot.specs.Shot.{opened, measured, fixed_with, coloured};
 
 use curve::Choice;
 use dial::Dial;
+use lines::Targets;
 use pixel::Method;
 use refusal::Refusal;
 use settings::Setting;
@@ -157,7 +158,8 @@ impl Shot {
         let method = Method::try_from(method)?;
         colouring::check_sizes(source, destination)?;
         let setting = Setting::try_from(dial)?;
-        colouring::colour_under(setting, curve, method, source, destination);
+        let targets = Targets { entries: curve };
+        colouring::colour_under(setting, targets, method, source, destination);
         Ok(())
     }
 }

@@ -11,6 +11,7 @@ ghost use Rattle.still.specs.Limits.{input_limit};
 ghost use Rattle.still.specs.Still.{picture, refusal_line, sample_checks, file_number, output_limit, outcome};
 
 use curve::Choice;
+use lines::Targets;
 use netpbm::Header;
 use pixel::Method;
 use refusal::Refusal;
@@ -19,10 +20,11 @@ use text::Writer;
 // One byte more than the largest accepted file: so many bytes of a file are enough. (An area goes by `as`: no From makes a usize of it.)
 const INPUT_LIMIT: usize = netpbm::HEADER_LIMIT + 3 * netpbm::AREA_LIMIT as usize + 1;
 
-// An output of so many bytes has room for every answer.
+// An output of so many bytes has room for every answer. (The area goes by `as` here too.)
 const OUTPUT_LIMIT: usize = netpbm::WRITTEN_LIMIT + 3 * netpbm::AREA_LIMIT as usize;
 
-// Room for the bytes of a file that are read. (One function for both buffers, of any length, would promise neither length.)
+// Room for the bytes of a file that are read. (Two functions, since the contracts say that the lengths are `input_limit` and `output_limit`:
+// one over any length N would say only N.)
 pub fn input_buffer() -> [u8; INPUT_LIMIT]
     ensures { result ≡ replicate input_limit 0 }
 {
@@ -42,6 +44,9 @@ struct Picture<'a> {
     header: Header,
     samples: &'a [u8],
     curve: [u16; 766],
+    ghost fits: { PictureFits header.width header.height (length samples.now) },
+    ghost own_curve: { OwnCurve samples.now curve },
+    ghost in_range: { EntriesInRange curve },
 }
 
 // File 15, 16, by how many samples are due and how many bytes are present.
@@ -60,10 +65,11 @@ fn check_samples(due: usize, present: usize) -> Result<(), Refusal>
 // Reads a file: its picture, or the first of file 12, 13, 14, 15, 16 that applies.
 fn read_picture(file: &[u8]) -> Result<Picture<'_>, Refusal>
     ensures number { number_in result ≡ file_number file.now }
-    ensures parts { IfOk result (λ image. PictureOf file.now image) }
+    ensures parts { IfOk result (λ image. PictureOf file.now image.header image.samples.now) }
 {
     let header = netpbm::read_header(file)?;
     let samples = &file[header.start..];
+    // by `as`: no From makes a usize of a u64
     check_samples(3 * header.area() as usize, samples.len())?;
     let curve = strip_curve::curve_of_strip(Choice::Cube, samples)?;
     Ok(Picture {
@@ -73,7 +79,7 @@ fn read_picture(file: &[u8]) -> Result<Picture<'_>, Refusal>
     })
 }
 
-// Writes a refusal at the start of the output, and hands back how many bytes it has.
+// Writes a refusal at the start of the output, and hands back how many bytes it has: a length, for the reason at `balance_file`.
 #[tactic(auto, using(crate::proofs::Sizes::refusal_size))]
 fn write_refusal(refusal: Refusal, output: &mut [u8]) -> usize
     requires { length (refusal_line (refusal_number refusal)) ≤ length output.old }
@@ -88,17 +94,18 @@ fn write_refusal(refusal: Refusal, output: &mut [u8]) -> usize
 }
 
 // Writes a picture at the start of the output: a header, and the samples coloured by their own curve and method 2. Hands back how many
-// bytes it has.
+// bytes it has, for the same reason.
 fn write_picture(image: &Picture, output: &mut [u8]) -> usize
-    requires picture_fits { PictureFits image.now.header.width image.now.header.height (length image.now.samples.now) (length output.old) }
-    requires own_curve { OwnCurve image.now.samples.now image.now.curve }
-    requires entries_in_range { EntriesInRange image.now.curve }
+    requires { output_limit ≤ length output.old }
     ensures { Writes 0 (picture image.now.header.width image.now.header.height image.now.samples.now) output.old result output.new }
 {
     let first = netpbm::write_header(image.header.width, image.header.height, output);
     let end = first + image.samples.len();
+    let targets = Targets {
+        entries: &image.curve,
+    };
     colouring::colour_strip(
-        &image.curve,
+        targets,
         Method::YangLee,
         image.samples,
         &mut output[first..end],

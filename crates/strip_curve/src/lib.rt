@@ -26,6 +26,7 @@ fn strip_refusal(whole: bool, empty: bool, over: bool) -> Result<(), Refusal>
 }
 
 // The tone curve of the strip by the choice. Refused: 2, 5, 3.
+#[tactic(auto, using(crate::proofs::Laws::answer_refused))]
 pub fn curve_of_strip(choice: Choice, strip: &[u8]) -> Result<[u16; 766], Refusal>
     ensures { strip_answer result ≡ strip_curve choice strip.now }
 {

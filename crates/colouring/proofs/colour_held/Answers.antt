@@ -3,6 +3,6 @@ use Rattle.std.proofs.Common.{ℕ, ◌≤◌, subst, sym, arith}
 use lib.ListN.{get_or-replicate}
 use Rattle.colouring.proofs.colour_held.Goals as goal
 
-pub colour_strip-requires-clause-entries_in_range : goal.colour_strip-requires-clause-entries_in_range
-colour_strip-requires-clause-entries_in_range c =
-    λ s h. subst (λ (x : ℕ). x ≤ 765) (sym (get_or-replicate 766 s c.args.v 0 (omega arith))) c.requires.v_bound
+pub invariant_of-targets : goal.invariant_of-targets
+invariant_of-targets c =
+    record { in_range = λ s h. subst (λ (x : ℕ). x ≤ 765) (sym (get_or-replicate 766 s c.args.v 0 (omega arith))) c.requires.v_bound }

@@ -1,26 +1,12 @@
 -- `still::balance_file` meets its contract.
-use Rattle.std.proofs.Common.{ℕ, ◌≤◌, List, length, sym, arith}
+use Rattle.std.proofs.Common.{sym, arith}
 use Rattle.refusal.proofs.Numbers.{refusals_are_numbered}
-use Rattle.still.specs.Inner.{PictureFits, PictureOf}
-use Rattle.still.specs.Still.{IsAccepted, output_limit}
-use Rattle.still.specs.declared.Picture.{Picture}
-use Rattle.still.proofs.Answers.{accepted_fits, accepted_exact, accepted_answer, refused_answer, short_outcome, answer_outcome}
+use Rattle.still.proofs.Answers.{accepted_answer, refused_answer, short_outcome, answer_outcome}
 use Rattle.still.proofs.Sizes.{refusal_small, refusal_short}
 use Rattle.still.proofs.balance_file.Goals as goal
 
--- an accepted file's picture fits an output of full size
-picture_fits : (file : List ℕ) (image : Picture) (output : ℕ) → PictureOf file image → IsAccepted file → output_limit ≤ output
-    → PictureFits image.header.width image.header.height (length image.samples.now) output
-picture_fits file image output of accepted room =
-    let fits = accepted_fits file accepted in
-    rw (of.header, of.samples) (record { exact = accepted_exact file accepted; some = fits.some; most = fits.most; room = room })
-
 pub returns-then-output-lt-OUTPUT_LIMIT : goal.returns-then-output-lt-OUTPUT_LIMIT
 returns-then-output-lt-OUTPUT_LIMIT c = short_outcome _ _ c.if-output-lt-OUTPUT_LIMIT.true
-
-pub write_picture-requires-clause-picture_fits : goal.write_picture-requires-clause-picture_fits
-write_picture-requires-clause-picture_fits c =
-    picture_fits _ _ _ c.in-Ok.ensures.parts (sym c.in-Ok.ensures.number) c.if-output-lt-OUTPUT_LIMIT.false
 
 pub write_refusal-requires : goal.write_refusal-requires
 write_refusal-requires c =

@@ -1,13 +1,13 @@
 -- `still::read_picture` meets its contract.
-use Rattle.std.proofs.Common.{◌+◌, length, refl, sym, ap, ◌∙◌, arith}
+use Rattle.std.proofs.Common.{◌≡◌, ◌+◌, length, refl, sym, ap, ◌∙◌, arith}
 use lib.Seq.{get_or-drop}
 use Rattle.std.proofs.lemmas.Result.{err_from_is_err_and}
 use Rattle.refusal.specs.Numbers.{number_in}
 use Rattle.refusal.proofs.Numbers.{refusals_are_numbered}
 use Rattle.pixel.specs.Strip.{Bytes}
 use Rattle.strip_curve.proofs.Laws.{made_number, made_curve, strip_accepted, strip_shape}
-use Rattle.still.specs.Still.{file_choice, file_number, file_header, file_samples}
-use Rattle.still.proofs.Answers.{number_of_header, read_fits, read_samples, read_number, accepted_shot}
+use Rattle.still.specs.Still.{file_choice, samples_due, file_number, file_header, file_samples}
+use Rattle.still.proofs.Answers.{number_of_header, read_fits, read_samples, read_number, accepted_exact, accepted_shot}
 use Rattle.still.proofs.read_picture.Goals as goal
 
 pub returns-in_err-header-clause-number : goal.returns-in_err-header-clause-number
@@ -48,18 +48,24 @@ returns-clause-number c =
     let number = rw (c.in_ok-check_samples.was, c.area.ensures, read_samples _ _ reads) at c.check_samples.ensures in
     number ∙ sym (read_number _ _ reads)
 
-pub returns-clause-parts : goal.returns-clause-parts
-returns-clause-parts c =
+-- the picture is one of an accepted file
+pub invariant_of-result : goal.invariant_of-result
+invariant_of-result c =
     let file = c.args.file.now in
     let reads = sym c.read_header.ensures ∙ c.in_ok-header.was in
     let number = rw (c.in_ok-check_samples.was, c.area.ensures, read_samples _ _ reads) at c.check_samples.ensures in
-    let shot = accepted_shot file (read_number _ _ reads ∙ sym number) in
+    let accepted = read_number _ _ reads ∙ sym number in
     let samples = read_samples _ _ reads in
+    let exact : length (file_samples file) ≡ samples_due c.in_ok-header.header = accepted_exact file accepted ∙ rw reads refl in
     let bytes : Bytes (file_samples file) = λ i. omega (arith, get_or-drop (file_header file).start file i 0, c.type_inv.file ((file_header file).start + i)) in
     let curve = made_curve _ _ _ (rw samples at c.curve_of_strip.ensures) _ c.in_ok-curve.was in
     record {
-      header = rw reads refl;
-      samples = samples;
-      curve = rw samples curve;
-      range = rw curve (strip_shape (file_samples file) shot bytes file_choice).range;
+      fits = rw samples (record { exact = exact; some = (read_fits _ _ reads).some; most = (read_fits _ _ reads).most });
+      own_curve = rw samples curve;
+      in_range = rw curve (strip_shape (file_samples file) (accepted_shot file accepted) bytes file_choice).range;
     }
+
+pub returns-clause-parts : goal.returns-clause-parts
+returns-clause-parts c =
+    let reads = sym c.read_header.ensures ∙ c.in_ok-header.was in
+    record { header = rw reads refl; samples = read_samples _ _ reads }

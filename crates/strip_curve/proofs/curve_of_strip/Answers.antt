@@ -1,13 +1,7 @@
 -- `strip_curve::curve_of_strip` meets its contract.
 use Rattle.std.proofs.Common.{sym, ◌∙◌, arith}
-use Rattle.std.proofs.lemmas.Result.{err_from_is_err_and}
-use Rattle.strip_curve.proofs.Laws.{answer_refused, answer_accepted, strip_passed, zeros_fit, strip_histogram, strip_made}
+use Rattle.strip_curve.proofs.Laws.{answer_accepted, strip_passed, zeros_fit, strip_histogram, strip_made}
 use Rattle.strip_curve.proofs.curve_of_strip.Goals as goal
-
-pub returns-in_err-strip_refusal : goal.returns-in_err-strip_refusal
-returns-in_err-strip_refusal c =
-    let p = err_from_is_err_and c.from_residual.result c.from_residual.ensures.1 in
-    rw (p.1, p.2) (answer_refused _ _ _ c.in_err-strip_refusal.ensures)
 
 pub count_strip-counts-requires : goal.count_strip-counts-requires
 count_strip-counts-requires c = zeros_fit _ (strip_passed c.args.strip.now (sym c.in_ok-strip_refusal.ensures))

@@ -71,9 +71,10 @@ class Contract(NamedTuple):
 
 
 def body(text, value="shot"):
-    """A contract's statement as the page writes it: what a run held at the start by its name, and the value's name for `self`."""
+    """A contract's statement as the page writes it: what a run held at the start, and what was handed in, by its name; the value's for `self`."""
     text = re.sub(r"^(?:\w+ )?\{ | \}$", "", text.strip())
     text = re.sub(r"\b(\w+)(?:\.entry)?\.(?:now|old)\b", r"\1", text)
+    text = re.sub(r"\b(\w+)\.entry\b", r"\1", text)
     return re.sub(r"\bself\b", value, text)
 
 

@@ -9,8 +9,8 @@ use Rattle.pixel.specs.declared.Pixel.{Pixel}
 use Rattle.settings.specs.Setting.{written_under}
 use Rattle.settings.specs.declared.Setting.{Setting}
 
--- The checks of the runs that a colouring brings, 2 and 8. 2: the source's length is not a multiple of 3. 8: destination and source differ in
--- length.
+-- The checks of the runs that a colouring brings, 2 and 8. 2: the source's length is not a multiple of 3. 8: destination and source differ
+-- in length.
 abbrev pub size_checks : List ℕ → List ℕ → List Check
 size_checks source destination =
     not (is_whole (length source)) refuses 2 ∷ not (eqb (length destination) (length source)) refuses 8 ∷ []

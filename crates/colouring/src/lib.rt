@@ -78,8 +78,8 @@ pub fn colour_strip(targets: Targets, method: Method, source: &[u8], destination
     colour_by_lines(&lines::lines_of(targets, method), source, destination);
 }
 
-// The full balance of every pixel of the source, mixed with the source by k / 256. (A number with a clause, as in `mix_bytes`: a type with the
-// bound would be made here of the setting's number, and taken apart there.)
+// The full balance of every pixel of the source, mixed with the source by k / 256. (A number with a clause, as in `mix_bytes`: a type with
+// the bound would be made here of the setting's number, and taken apart there.)
 #[tactic(auto, using(crate::proofs::Strips::mix_mixes, crate::proofs::Strips::amount_one_is_full_balance))]
 fn colour_mixed(k: u32, targets: Targets, method: Method, source: &[u8], destination: &mut [u8])
     requires k_bound { k ≤ 256 }

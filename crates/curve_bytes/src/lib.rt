@@ -13,7 +13,8 @@ pub const CURVE_LENGTH: usize = 1532;
 pub fn write_curve(curve: &[u16; 766], bytes: &mut [u8; CURVE_LENGTH])
     ensures { bytes.new ≡ curve_bytes curve.now }
 {
-    // The contract of `as_chunks_mut` leaves unsaid what the slice holds at the end, and an array's `map` takes many times as long.
+    // The contract of `as_chunks_mut` leaves unsaid what the slice holds at the end, and `array::from_fn` or an array's `map` takes many
+    // times as long.
     for (k, entry) in curve.iter().enumerate() {
         let [low, high] = entry.to_le_bytes();
         bytes[2 * k] = low;
@@ -30,6 +31,7 @@ pub fn read_curve(bytes: &[u8; CURVE_LENGTH]) -> [u16; 766]
 }
 
 // Whether the entries keep the rule by which a curve is accepted. Where the last is 765 and none falls, none exceeds 765.
+#[tactic(auto, unfolding(crate::specs::CurveBytes::keeps_curve_rule))]
 pub fn keeps_curve_rule(curve: &[u16; 766]) -> bool
     ensures { result ≡ keeps_curve_rule curve.now }
 {

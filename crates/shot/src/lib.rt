@@ -62,7 +62,7 @@ impl Answer {
 
 impl Shot {
     // A new shot, with no pixel and not fixed.
-    #[tactic(auto, using(crate::proofs::Premise::from_open), unfolding(crate::specs::Shot::opened, crate::specs::Kept::entries))]
+    #[tactic(auto, unfolding(crate::specs::Shot::opened, crate::specs::Kept::entries))]
     pub fn open() -> Shot
         ensures { result ≡ opened }
     {

@@ -58,6 +58,10 @@ record Follows (s f : ℕ) (line : Line) (move : ℕ → ℕ) (k : Fraction) (fo
   factors : k ≡ fraction line
   exact : (c : ℕ) → MovingSample s f c → ExactOnLine line c (formula c)
 
+-- what a line gives at a distance that it reaches
+pub at_most_255 : {x n d : ℕ} → AtMostWhite x n d → near (x * n) d ≤ 255
+at_most_255 {x} {n} {d} h = near_le d h.positive (x * n) 255 h.small
+
 -- the distances of a bright pixel's samples from s − 510
 bright_total : (r g b s : ℕ) → r + g + b ≡ s → 510 < s → s < 765 → r ≤ 255 → g ≤ 255 → b ≤ 255
     → r - (s - 510) + (g - (s - 510)) + (b - (s - 510)) ≡ 2 * (765 - s)
@@ -234,9 +238,6 @@ module _ (m : Method) {s f c : ℕ} (h : MovingSample s f c) where
         steep = facts.steep;
         small = sample_facts.small;
       }
-
-pub at_most_255 : {x n d : ℕ} → AtMostWhite x n d → near (x * n) d ≤ 255
-at_most_255 {x} {n} {d} h = near_le d h.positive (x * n) 255 h.small
 
 pub moves_follow_lines : MovesFollowLines
 moves_follow_lines m s f c h = (follows (moving h) m).moves c h

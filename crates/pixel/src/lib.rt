@@ -224,7 +224,7 @@ fn along_line(method: Method, s: u64, f: u64, c: u64) -> u8
 }
 
 // One sample of a moved pixel. Black and white stay, and neither method divides by zero.
-#[tactic(auto, using(std::proofs::lemmas::Bool::Decides::nat_tests, crate::proofs::Lines::moves_follow_lines), unfolding(crate::specs::Move::moved_sample))]
+#[tactic(auto, using(std::proofs::lemmas::Bool::Decides::nat_tests), unfolding(crate::specs::Move::moved_sample))]
 fn moved_sample(method: Method, s: u64, f: u64, c: u64) -> u8
     requires { PixelSample s f c }
     ensures { result ≡ moved_sample method s f c }

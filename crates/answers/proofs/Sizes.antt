@@ -34,7 +34,8 @@ pub answered : {text before after : List ℕ} {start now : Writer} → Wrote tex
     → now.end ≤ text_limit → WritesAnswer text before now.end after
 answered wrote none held left short = record { writes = wrote_all wrote none held left; short = short }
 
--- For callers: an answer stays within an output that has room for every answer, and leaves its length.
+-- For callers: an answer stays within an output that has room for every answer, and leaves its length. (Cited by nothing; docs/PORT.md
+-- names both.)
 module _ {text before after : List ℕ} {size : ℕ} (room : text_limit ≤ length before) (wrote : WritesAnswer text before size after) where
   pub answer_within : size ≤ length after
   answer_within = omega (arith, room, writes_room wrote.writes 0 (omega (arith, room, wrote.short)))

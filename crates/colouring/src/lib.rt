@@ -69,7 +69,7 @@ fn colour_by_lines(lines: &[FixedLine; 766], source: &[u8], destination: &mut [u
 
 // Every pixel of the source, moved to the curve's entry for its intensity, at the same place of the destination. Here and below `SameSize`
 // stays a clause: with the two runs in a struct each function would have to say, in a clause in its place, that the destination in it stays
-// the one that was lent.
+// the one that was lent. Targets and method are no struct either: hold takes the method to targets of its own.
 #[tactic(auto, using(crate::proofs::Lines::lines_colour))]
 pub fn colour_strip(targets: Targets, method: Method, source: &[u8], destination: &mut [u8])
     requires { SameSize source.now destination.old }

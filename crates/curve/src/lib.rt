@@ -175,7 +175,8 @@ fn with_ends(mut entries: [u16; 766]) -> [u16; 766]
     entries
 }
 
-// The tone curve of a histogram.
+// The tone curve of a histogram. (The number of pixels stands beside the counts, and in no struct with them: a shot has both among its
+// fields, and nothing else hands them on.)
 pub fn tone_curve(choice: Choice, pixels: u32, counts: &[u32; 766]) -> [u16; 766]
     requires { HistogramOf pixels counts.now }
     ensures { result ≡ tone_curve choice pixels (cumulative counts.now) }

@@ -7,8 +7,8 @@ ghost use Rattle.dial.specs.Dial.{whole_of, decoded};
 use refusal::Refusal;
 use settings::Setting;
 
-// The panel's command, as it was sent. (A type apart from `Setting`, and not one type with a parameter for the numbers: a command has the
-// floats that the panel sent, which may be refused, and a setting the whole numbers that accepted ones stand for.)
+// The panel's command, as it was sent. (A type apart from `Setting`, which has the same cases in whole numbers, and not one type with a
+// parameter: no function takes both, and each contract would have to say which of the two it means.)
 #[derive(Clone, Copy)]
 pub enum Dial {
     Off,

@@ -23,7 +23,7 @@ pub the_nan : of_bits binary32 2143289344 ≡ nan
 unfolding of_bits
 the_nan = refl
 
--- NaN is one float
+-- NaN is one float (cited by nothing, as the next; docs/PORT.md names both)
 the_one_nan : (x : Float) → is_nan x ≡ true → x ≡ nan
 unfolding is_nan
 the_one_nan nan is = refl

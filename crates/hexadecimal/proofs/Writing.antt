@@ -11,7 +11,7 @@ use Rattle.hexadecimal.specs.Hexadecimal.{digit_value, digit_code, decoded, enco
 use Rattle.hexadecimal.proofs.Hexadecimal.{length_decoded, length_encoded, byte_at}
 
 module _ (digits : List ℕ) {run output : List ℕ} {i : ℕ} (wrote : Writes 0 (take i (decoded digits)) run i output) where
-  -- the run keeps its length
+  -- the run keeps its length (cited by nothing; docs/PORT.md names it)
   pub decoded_kept : length digits / 2 ≤ length run → length output ≡ length run
   decoded_kept fits = writes_length wrote (omega (arith, fits, wrote.ends, length-take i (decoded digits), length_decoded digits))
 
@@ -30,7 +30,7 @@ module _ (digits : List ℕ) {run output : List ℕ} {i : ℕ} (wrote : Writes 0
 
 module _ (place : ℕ) (bytes : List ℕ) {run output : List ℕ} (i : ℕ) (fits : place + 2 * length bytes ≤ length run)
     (wrote : Writes place (take (2 * i) (encoded bytes)) run (place + 2 * i) output) where
-  -- the place after the digits lies within the run
+  -- the place after the digits lies within the run (this and the next cited by nothing; docs/PORT.md names both)
   pub encoded_within : place + 2 * i ≤ length run
   encoded_within = omega (arith, fits, wrote.ends, length-take (2 * i) (encoded bytes), length_encoded bytes)
 

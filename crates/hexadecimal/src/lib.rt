@@ -34,7 +34,7 @@ fn digit_code(d: u8) -> u8
     b'a' + (d - 10)
 }
 
-// Whether a text is pairs of hexadecimal digits.
+// Whether a text is pairs of hexadecimal digits. (By where the run of digits ends, as in the definition.)
 pub fn is_pairs(text: &[u8]) -> bool
     ensures { result ≡ is_pairs text.now }
 {
@@ -48,6 +48,7 @@ pub fn decode(digits: &[u8], output: &mut [u8]) -> usize
     ensures { Writes 0 (decoded digits.now) output.old result output.new }
 {
     let (pairs, _) = digits.as_chunks::<2>();
+    // A zip with the output would leave the bytes written unknown to the proof.
     for (i, &[high, low]) in pairs.iter().enumerate() {
         output[i] = 16 * digit_value(high) + digit_value(low);
     }

@@ -1,5 +1,5 @@
 // The calls for the panel's host program, which is written in C (document 01, "The panel's host"): so choices, methods and answers are
-// numbers. They keep nothing between calls. The crate `host_c` hands them to C.
+// numbers, also here, since the crate `host_c` hands the calls to C as they are, contract and all. They keep nothing between calls.
 #![tactic(auto)]
 
 ghost use Rattle.std.specs.Prelude.{◌≡◌, IfOk};

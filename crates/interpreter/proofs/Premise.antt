@@ -56,7 +56,7 @@ reply_reachable shots (moving method pixel target) brings all = all
 pub replies_keep_premise : RepliesKeepPremise
 replies_keep_premise line shots command all = reply_reachable shots (request_in line command) (brings_bytes line command) all
 
--- newly opened shots came from the calls
+-- newly opened shots came from the calls (cited by nothing, as the next; docs/PORT.md names both)
 pub new_reachable : AllReachable new_shots
 new_reachable = record { each = λ number. by_place number (λ (place : ℕ). Reachable (get_or new_shots.all place opened)) by_opening by_opening by_opening by_opening }
 

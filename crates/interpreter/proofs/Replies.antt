@@ -1,4 +1,4 @@
--- Replies, and the bytes that a line brings.
+-- Replies, and the bytes that a line brings. (Cited by nothing; docs/PORT.md names this file.)
 use Rattle.std.proofs.Common.{◌≡◌, ℕ, ◌/◌, ◌≤◌, List, length, take, sym, ap, subst, ◌∙◌, arith}
 use lib.Seq.{length-take-le}
 use Rattle.text.specs.Text.{Writes}

@@ -22,7 +22,8 @@ pub struct Shots {
 }
 
 // The place of a shot: those of a script have the numbers 1 to 4, those of the array the places 0 to 3. (A line that is read as a call has
-// no other number. `Command` has room for any, so the rest have the last place, and no clause has to ask for one of the four.)
+// no other number; the rest have the last place, so that no clause has to ask for one of the four. `Command` has numbers and no type of the
+// four, since the examples and the laws of lists speak of shots by number: such a type would be made of one and turned back into it.)
 fn place_of(number: u32) -> usize
     ensures { (result ≡ place_of number) × (result < 4) }
 {

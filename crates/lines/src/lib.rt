@@ -44,7 +44,7 @@ impl FixedLine {
     }
 }
 
-// The line of slope n / d that has so many parts at the sample `start`.
+// The line of slope n / d that has so many parts at the sample `start`. (The parts of a line one by one, as in the definition.)
 fn line_from(start: u64, n: u64, d: u64, parts: u32) -> FixedLine
     requires { Holdable start n d }
     ensures { result ≡ line_from start n d parts }

@@ -38,7 +38,8 @@ impl Header {
     }
 }
 
-// A field of the header: its number, and the place after it.
+// A field of the header: its number, and the place after it. (`words::Found` is alike. One type for both would want a crate below both, for
+// its two fields alone.)
 #[derive(Clone, Copy)]
 struct Field {
     number: u32,

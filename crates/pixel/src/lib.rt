@@ -238,7 +238,7 @@ fn moved_sample(method: Method, s: u64, f: u64, c: u64) -> u8
     along_line(method, s, f, c)
 }
 
-// The pixel whose first byte stands at i.
+// The pixel whose first byte stands at i. (A run and a place in it, since `colouring` goes by places, and says why.)
 pub fn read_pixel(strip: &[u8], i: usize) -> Pixel
     requires { i + 2 < length strip.now }
     ensures { result ≡ pixel_from strip.now i }

@@ -54,6 +54,7 @@ from_measure strip r bytes e = subst (λ (b : Answer). Reachable b.shot) (sym e)
 pub from_fix : {x : Shot} {a : Answer} (choice : ℕ) → Reachable x → a ≡ fixed_with x choice → Reachable a.shot
 from_fix choice r e = subst (λ (b : Answer). Reachable b.shot) (sym e) (by_fixing r choice)
 
+-- colouring hands back the shot that it got (cited by nothing: it stands so that each call has its law)
 pub from_colour : {x : Shot} {a : Answer} (q : ColourRequest) (bytes : List ℕ) → Reachable x
     → coloured x q ≡ record { answer = a; bytes = bytes } → Reachable a.shot
 unfolding coloured

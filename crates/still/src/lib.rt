@@ -23,8 +23,8 @@ const INPUT_LIMIT: usize = netpbm::HEADER_LIMIT + 3 * netpbm::AREA_LIMIT as usiz
 // An output of so many bytes has room for every answer. (The area goes by `as` here too.)
 const OUTPUT_LIMIT: usize = netpbm::WRITTEN_LIMIT + 3 * netpbm::AREA_LIMIT as usize;
 
-// Room for the bytes of a file that are read. (Two functions, since their contracts say that the lengths are `input_limit` and
-// `output_limit`: one over any length N would say only N.)
+// Room for the bytes of a file that are read. (Two functions, and not one over any length, so that a caller names no limit and
+// each contract says its own.)
 pub fn input_buffer() -> [u8; INPUT_LIMIT]
     ensures { result ≡ replicate input_limit 0 }
 {

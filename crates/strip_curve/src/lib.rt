@@ -10,7 +10,7 @@ use curve::Choice;
 use refusal::Refusal;
 
 // 2, 5, 3: the first that applies. (Three facts, and not a length: of no length could it be seen that 5 stands before 3.)
-fn strip_refusal(whole: bool, empty: bool, over: bool) -> Result<(), Refusal>
+fn check_strip(whole: bool, empty: bool, over: bool) -> Result<(), Refusal>
     ensures { number_in result ≡ first_of (strip_checks whole empty over) }
 {
     if !whole {
@@ -31,7 +31,7 @@ pub fn curve_of_strip(choice: Choice, strip: &[u8]) -> Result<[u16; 766], Refusa
     ensures { strip_answer result ≡ strip_curve choice strip.now }
 {
     let length = strip.len();
-    strip_refusal(
+    check_strip(
         length % 3 == 0,
         length == 0,
         measuring::PIXEL_LIMIT < length / 3,

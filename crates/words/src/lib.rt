@@ -117,7 +117,8 @@ fn number_of(word: &[u8]) -> Option<u32>
 }
 
 // The number that follows a place. (`dial_words` reads floats so. One function for both would be bounded by a trait of this crate, which
-// `dial_words` may not implement for `f32`: it would need a type of its own around the float.)
+// `dial_words` may not implement for `f32`: it would need a type of its own around the float. With the reading handed in it would need a
+// contract on what that returns, longer than both, as at `read_strip`.)
 #[tactic(auto, unfolding(crate::specs::Words::number_at))]
 pub fn read_number(line: &[u8], place: usize) -> Result<Found<u32>, Fault>
     ensures { result ≡ number_at line.now place }

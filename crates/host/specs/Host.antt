@@ -45,11 +45,6 @@ pub record ColourCall : Type 0 where
   pub source : List ℕ
   pub destination : List ℕ
 
--- The checks of the bytes of a curve, 10 and 11.
-abbrev pub bytes_checks : List ℕ → List Check
-bytes_checks bytes =
-    not (eqb (length bytes) curve_length) refuses 10 ∷ not (keeps_curve_rule (curve_entries bytes)) refuses 11 ∷ []
-
 -- Host colour 10, 11, 7, 2, 8. 10: a curve's bytes are not 1,532 long. 11: the curve breaks the rule. 7: the method is not 1 or 2. 2: the
 -- source's length is not a multiple of 3. 8: destination and source differ in length.
 abbrev pub colour_checks : (sized ruled known whole same : Bool) → List Check

@@ -1,3 +1,4 @@
 pub mod Host
 pub mod Agreement
 pub mod Accuracy
+pub mod Inner

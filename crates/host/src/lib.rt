@@ -7,7 +7,8 @@ ghost use Rattle.refusal.specs.Numbers.{number_in};
 ghost use Rattle.refusal.specs.Refusal.{first_of};
 ghost use Rattle.curve.specs.Curve.{EntriesInRange};
 ghost use Rattle.curve_bytes.specs.CurveBytes.{curve_entries};
-ghost use Rattle.host.specs.Host.{curve_outcome, bytes_checks, colour_outcome};
+ghost use Rattle.host.specs.Host.{curve_outcome, colour_outcome};
+ghost use Rattle.host.specs.Inner.{bytes_checks};
 
 use curve::Choice;
 use lines::Targets;

@@ -1,6 +1,6 @@
 -- Laws of a header's fields, each white space and then a number.
 use mathlib.Core.Path.{◌≡◌, refl, sym, ap, ap₂, ◌∙◌}
-use mathlib.Core.Bool.{true, ◌&&◌, cond}
+use mathlib.Core.Bool.{true, false, ◌&&◌, cond}
 use mathlib.Core.List.{List}
 use Prim.Native.Nat.{ℕ, ◌+◌, ◌-◌, ◌^◌, ◌≤◌, ◌<◌}
 use native.Mathlib.Nat.{pow-le-pow_right}
@@ -9,12 +9,16 @@ use borrow.Author.Tests.{leb-true, le-leb}
 use borrow.Table.Steps.{cases}
 use lib.Dec.{leb}
 use lib.ListN.{length, take, drop, length-drop}
+use lib.Seq.{length-take-le}
 use Rattle.tables.specs.Table.{at}
 use Rattle.std.proofs.lemmas.Bool.{and_parts}
 use Rattle.text.specs.Decimal.{is_digit, Digits, value}
 use Rattle.text.proofs.Decimal.{value_below}
 use Rattle.scanning.specs.Scanning.{is_space, run_length}
-use Rattle.netpbm.specs.Header.{field_at, judged, has_letters, header_in, Malformed, Number, NoNumber}
+use Rattle.netpbm.specs.Header.{white_length, field_at, judged, has_letters, header_in, Malformed, Number, NoNumber}
+use Rattle.netpbm.specs.Grammar.{WhiteSpace}
+use Rattle.netpbm.proofs.WhiteSpace.{white_within}
+use Rattle.netpbm.proofs.WhiteTexts.{white_found}
 use Rattle.scanning.proofs.Runs.{run_within, length_run, run_all}
 
 -- with the letters and three fields found, the byte after them decides
@@ -37,11 +41,11 @@ pub record Scanned (bytes : List ℕ) (place first end : ℕ) : Type 0 where
 -- The field that begins at a place.
 module _ (bytes : List ℕ) (place : ℕ) where
   -- how much white space stands there, and where its digits begin
-  abbrev pub spaces_at : ℕ
-  spaces_at = run_length is_space (drop place bytes)
+  abbrev pub white_at : ℕ
+  white_at = white_length false (drop place bytes)
 
   abbrev pub first_at : ℕ
-  first_at = place + spaces_at
+  first_at = place + white_at
 
   -- how many digits those are, and where they end
   abbrev pub digits_at : ℕ
@@ -50,27 +54,39 @@ module _ (bytes : List ℕ) (place : ℕ) where
   abbrev pub end_at : ℕ
   end_at = first_at + digits_at
 
-  -- the digits
+  -- the white space, and the digits
+  abbrev pub gap_at : List ℕ
+  gap_at = take white_at (drop place bytes)
+
   abbrev pub numeral_at : List ℕ
   numeral_at = take digits_at (drop first_at bytes)
 
-  pub field_number : 0 < spaces_at → 0 < digits_at → digits_at ≤ 5 → field_at bytes place ≡ Number (value numeral_at) end_at
+  pub field_number : 0 < white_at → 0 < digits_at → digits_at ≤ 5 → field_at bytes place ≡ Number (value numeral_at) end_at
   unfolding field_at
-  field_number spaces some most = simp (le-leb 1 spaces_at spaces, le-leb 1 digits_at some, le-leb digits_at 5 most)
+  field_number white some most = simp (le-leb 1 white_at white, le-leb 1 digits_at some, le-leb digits_at 5 most)
 
   -- there is a number, with its white space and digits, or none
-  pub field_either : {P : Type 0} → (0 < spaces_at → 0 < digits_at → digits_at ≤ 5 → P) → (field_at bytes place ≡ NoNumber → P) → P
+  pub field_either : {P : Type 0} → (0 < white_at → 0 < digits_at → digits_at ≤ 5 → P) → (field_at bytes place ≡ NoNumber → P) → P
   unfolding field_at
   field_either number none =
-      cases (leb 1 spaces_at && leb 1 digits_at && leb digits_at 5)
+      cases (leb 1 white_at && leb 1 digits_at && leb digits_at 5)
       (λ e.
-      let (front, most) = and_parts (leb 1 spaces_at && leb 1 digits_at) (leb digits_at 5) e in
-      let (spaces, some) = and_parts (leb 1 spaces_at) (leb 1 digits_at) front in
-      number (leb-true 1 _ spaces) (leb-true 1 _ some) (leb-true _ 5 most))
+      let (front, most) = and_parts (leb 1 white_at && leb 1 digits_at) (leb digits_at 5) e in
+      let (white, some) = and_parts (leb 1 white_at) (leb 1 digits_at) front in
+      number (leb-true 1 _ white) (leb-true 1 _ some) (leb-true _ 5 most))
       (λ e. none (rw e refl))
 
-  pub field_none : (0 < spaces_at → 0 < digits_at → digits_at ≤ 5 → ⊥) → field_at bytes place ≡ NoNumber
-  field_none never = field_either (λ spaces some most. absurd (never spaces some most)) (λ none. none)
+  pub field_none : (0 < white_at → 0 < digits_at → digits_at ≤ 5 → ⊥) → field_at bytes place ≡ NoNumber
+  field_none never = field_either (λ white some most. absurd (never white some most)) (λ none. none)
+
+  pub length_gap : length gap_at ≡ white_at
+  length_gap = length-take-le white_at (drop place bytes) (white_within false (drop place bytes))
+
+  -- with a digit after it, what stands there is white space
+  pub gap_white : 0 < white_at → 0 < digits_at → WhiteSpace gap_at
+  gap_white white some =
+      white_found (drop place bytes) white
+      (omega (arith, some, run_within is_digit (drop first_at bytes), length-drop first_at bytes, length-drop place bytes))
 
   pub length_numeral : length numeral_at ≡ digits_at
   length_numeral = length_run is_digit (drop first_at bytes)

@@ -1,5 +1,5 @@
 -- Reading a header is what the grammar says, both ways; and reading what was written gives the same picture back.
-use mathlib.Core.Path.{◌≡◌, refl, sym, ap, ◌∙◌}
+use mathlib.Core.Path.{◌≡◌, refl, sym, ap, ap₂, subst, ◌∙◌}
 use mathlib.Core.Bool.{Bool, true, false, cond}
 use mathlib.Core.List.{List, [], ◌∷◌, ◌++◌, append_assoc}
 use Prim.Native.Nat.{ℕ, suc, ◌+◌, ◌-◌, ◌*◌, ◌≤◌, ◌<◌}
@@ -9,14 +9,15 @@ use borrow.Author.Tests.{ne_eqb, le-ltb}
 use lib.ListN.{length, take, drop, length-append, length-take, take-append-drop}
 use lib.Seq.{drop-cons, append_snoc, take-append-add, get_or-append_seam}
 use Rattle.tables.specs.Table.{at}
-use Rattle.text.specs.Decimal.{value}
+use Rattle.text.specs.Decimal.{is_digit, value}
 use Rattle.text.specs.Text.{ascii}
 use Rattle.text.proofs.Decimal.{decimal_means}
-use Rattle.scanning.specs.Scanning.{is_space}
+use Rattle.scanning.specs.Scanning.{is_space, run_length}
 use Rattle.netpbm.specs.Header.{header_limit, area_limit, judged, has_letters, header_in, header_of, Reading, Accepted, Malformed}
 use Rattle.netpbm.specs.Grammar.{Parts, text_of, IsHeader, HasHeader, ReadingIsTheGrammar, WrittenIsRead}
 use Rattle.netpbm.proofs.Bytes.{space_within}
-use Rattle.netpbm.proofs.FieldTexts.{FieldText, read_to, one_space, white_stops, field_complete, field_sound}
+use Rattle.netpbm.proofs.WhiteTexts.{one_space, white_stops}
+use Rattle.netpbm.proofs.FieldTexts.{FieldText, read_to, field_complete, same_field, field_sound}
 use Rattle.netpbm.proofs.Fields.{last_decides}
 use Rattle.netpbm.proofs.Letters.{letters_split}
 use Rattle.netpbm.proofs.Written.{width_fits, height_fits, written_parts, written_text, written_is_header}
@@ -55,6 +56,16 @@ module _ (p : Parts) (header : IsHeader p) (rest : List ℕ) where
   largest_text : FieldText (text_of p ++ rest) to_height p.before_largest p.largest after_largest
   largest_text = record { white = header.before_largest; numeral = header.largest; split = append_snoc to_largest p.last rest }
 
+  -- where no digit goes on
+  width_stops : run_length is_digit after_width ≡ 0
+  width_stops = white_stops header.before_height (p.height ++ after_height)
+
+  height_stops : run_length is_digit after_height ≡ 0
+  height_stops = white_stops header.before_largest (p.largest ++ after_largest)
+
+  largest_stops : run_length is_digit after_largest ≡ 0
+  largest_stops = white_stops (one_space p.last header.last) rest
+
   last_at : at (text_of p ++ rest) (length to_largest) ≡ p.last
   last_at =
       ap (λ (l : List ℕ). at l (length to_largest)) (append_snoc to_largest p.last rest)
@@ -63,9 +74,9 @@ module _ (p : Parts) (header : IsHeader p) (rest : List ℕ) where
   text_complete : header_in (text_of p ++ rest) ≡ judged (value p.width) (value p.height) (value p.largest) (length (text_of p))
   text_complete =
       last_decides (text_of p ++ rest) _ _ _ _ _ _ refl
-      (field_complete width_text (white_stops header.before_height (p.height ++ after_height)))
-      (field_complete height_text (white_stops header.before_largest (p.largest ++ after_largest)))
-      (field_complete largest_text (white_stops (one_space p.last header.last) rest))
+      (field_complete width_text width_stops)
+      (field_complete height_text height_stops)
+      (field_complete largest_text largest_stops)
       ∙ rw (ap is_space last_at ∙ header.last) refl
       ∙ ap (judged (value p.width) (value p.height) (value p.largest)) (sym (length-append to_largest (p.last ∷ [])))
 
@@ -151,8 +162,66 @@ sound file not_malformed =
           ∙ append_assoc (text_of header.parts) header.samples rest;
     }
 
+abbrev parts : (before_width width before_height height before_largest largest : List ℕ) → ℕ → Parts
+parts before_width width before_height height before_largest largest last = record {
+  before_width = before_width;
+  width = width;
+  before_height = before_height;
+  height = height;
+  before_largest = before_largest;
+  largest = largest;
+  last = last;
+}
+
+-- Two headers at the start of one file: each part of one is that of the other.
+module _ (p q : Parts) (first : IsHeader p) (second : IsHeader q) (samples others : List ℕ) (same : text_of p ++ samples ≡ text_of q ++ others) where
+  -- a field of the second, in the first's file
+  moved : {front gap digits rest : List ℕ} → FieldText (text_of q ++ others) front gap digits rest
+      → FieldText (text_of p ++ samples) front gap digits rest
+  moved {front} {gap} {digits} {rest} = subst (λ (bytes : List ℕ). FieldText bytes front gap digits rest) (sym same)
+
+  fronts₁ : letters p first samples ≡ letters q second others
+  fronts₁ = refl
+
+  widths : (p.before_width ≡ q.before_width) × (p.width ≡ q.width)
+  widths =
+      same_field (width_text p first samples) (width_stops p first samples) (moved (width_text q second others)) (width_stops q second others) fronts₁
+
+  fronts₂ : to_width p first samples ≡ to_width q second others
+  fronts₂ = ap₂ ◌++◌ (ap₂ ◌++◌ fronts₁ widths.0) widths.1
+
+  heights : (p.before_height ≡ q.before_height) × (p.height ≡ q.height)
+  heights =
+      same_field (height_text p first samples) (height_stops p first samples) (moved (height_text q second others)) (height_stops q second others)
+      fronts₂
+
+  fronts₃ : to_height p first samples ≡ to_height q second others
+  fronts₃ = ap₂ ◌++◌ (ap₂ ◌++◌ fronts₂ heights.0) heights.1
+
+  largests : (p.before_largest ≡ q.before_largest) × (p.largest ≡ q.largest)
+  largests =
+      same_field (largest_text p first samples) (largest_stops p first samples) (moved (largest_text q second others))
+      (largest_stops q second others)
+      fronts₃
+
+  fronts₄ : to_largest p first samples ≡ to_largest q second others
+  fronts₄ = ap₂ ◌++◌ (ap₂ ◌++◌ fronts₃ largests.0) largests.1
+
+  lasts : p.last ≡ q.last
+  lasts =
+      sym (last_at p first samples)
+      ∙ ap₂ (λ (bytes front : List ℕ). at bytes (length front)) same fronts₄
+      ∙ last_at q second others
+
+  unique_lem : p ≡ q
+  unique_lem =
+      ap₂ (λ (g d : List ℕ). parts g d p.before_height p.height p.before_largest p.largest p.last) widths.0 widths.1
+      ∙ ap₂ (λ (g d : List ℕ). parts q.before_width q.width g d p.before_largest p.largest p.last) heights.0 heights.1
+      ∙ ap₂ (λ (g d : List ℕ). parts q.before_width q.width q.before_height q.height g d p.last) largests.0 largests.1
+      ∙ ap (parts q.before_width q.width q.before_height q.height q.before_largest q.largest) lasts
+
 pub reading_is_the_grammar : ReadingIsTheGrammar
-reading_is_the_grammar = record { complete = complete; sound = sound }
+reading_is_the_grammar = record { complete = complete; sound = sound; unique = unique_lem }
 
 -- a picture of an allowed size is accepted
 accepted : (width height start : ℕ) → 0 < width * height → width * height ≤ area_limit

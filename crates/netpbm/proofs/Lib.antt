@@ -1,4 +1,6 @@
 pub mod Bytes
+pub mod WhiteSpace
+pub mod WhiteTexts
 pub mod Fields
 pub mod Letters
 pub mod FieldTexts

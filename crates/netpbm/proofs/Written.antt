@@ -9,7 +9,7 @@ use Rattle.text.specs.Decimal.{decimal_within, decimal}
 use Rattle.text.proofs.Decimal.{decimal_means}
 use Rattle.netpbm.specs.Header.{area_limit, header_text, written_limit, WrittenHeadersFit}
 use Rattle.netpbm.specs.Grammar.{Parts, text_of, Numeral, IsHeader}
-use Rattle.netpbm.proofs.FieldTexts.{one_space}
+use Rattle.netpbm.proofs.WhiteTexts.{one_space}
 
 pub header_size : (width height : ℕ) → length (header_text width height) ≡ length (decimal width) + length (decimal height) + 9
 unfolding header_text

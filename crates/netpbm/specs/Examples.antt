@@ -1,4 +1,4 @@
--- Headers, and what reading them answers: document 01's sentences and boundaries, in figures.
+-- Headers, and what reading them answers: document 01's sentences and boundaries and those of document 02's wish 2, in figures.
 use Rattle.std.specs.Prelude.{◌≡◌, List, [], ◌∷◌, ◌++◌, map, ℕ, replicate}
 use Rattle.text.specs.Text.{ascii}
 use Rattle.netpbm.specs.Header.{Reading, Accepted, Malformed, OtherLargest, OtherSize, header_of}
@@ -35,11 +35,32 @@ examples =
     ∷ (ascii "P6\n00002 00001\n00255\n" reads sized 2 1 21)
     ∷ (ascii "P6\n2 1\n000255\n" reads Malformed)
     ∷ (ascii "P6\n000002 1\n255\n" reads Malformed)
-    -- 64 bytes, 65 bytes
-    ∷ (ascii "P6" ++ replicate 54 32 ++ ascii "2 1 255\n" reads sized 2 1 64)
-    ∷ (ascii "P6" ++ replicate 55 32 ++ ascii "2 1 255\n" reads Malformed)
-    -- comments are not read; nothing may be missing
-    ∷ (ascii "P6\n# job\n2 1\n255\n" reads Malformed)
+    -- a comment on a line of its own; directly after the letters and after each number but the last; one without text
+    ∷ (ascii "P6\n# job label\n2 1\n255\n" reads sized 2 1 23)
+    ∷ (ascii "P6#a\n2#b\n1#c\n255\n" reads sized 2 1 17)
+    ∷ (ascii "P6#\n2 1 255 " reads sized 2 1 12)
+    -- between white space, and several in a row
+    ∷ (ascii "P6 # a\n # b\n#c\n#d\n\t2 1\n255\n" reads sized 2 1 27)
+    -- LF ends one, and so does CR; after CR, LF is white space of its own
+    ∷ (ascii "P6\n#a\r2 1\n255\n" reads sized 2 1 14)
+    ∷ (ascii "P6\r\n#a\r\n2 1\n255\n" reads sized 2 1 16)
+    -- # within one, and a number, do not end it; and it splits the digits of a number
+    ∷ (ascii "P6\n#a #b# 3\n2 1\n255\n" reads sized 2 1 20)
+    ∷ (ascii "P6\n1#x\n2 255\n" reads sized 1 2 13)
+    -- a # that comes later is no comment: it is a sample
+    ∷ (ascii "P6\n2 1\n255\n#\n" reads sized 2 1 11)
+    -- none before the letters or within them, none after the largest sample value; one that never ends
+    ∷ (ascii "# job\nP6\n2 1\n255\n" reads Malformed)
+    ∷ (ascii "P#\n6\n2 1\n255\n" reads Malformed)
+    ∷ (ascii "P6\n2 1\n255#\n" reads Malformed)
+    ∷ (ascii "P6\n2 1\n255# job\n " reads Malformed)
+    ∷ (ascii "P6\n2 1 # 255 " reads Malformed)
+    -- 512 bytes, 513 bytes, of white space and of a comment
+    ∷ (ascii "P6" ++ replicate 502 32 ++ ascii "2 1 255\n" reads sized 2 1 512)
+    ∷ (ascii "P6" ++ replicate 503 32 ++ ascii "2 1 255\n" reads Malformed)
+    ∷ (ascii "P6#" ++ replicate 500 120 ++ ascii "\n2 1 255\n" reads sized 2 1 512)
+    ∷ (ascii "P6#" ++ replicate 501 120 ++ ascii "\n2 1 255\n" reads Malformed)
+    -- nothing may be missing
     ∷ (ascii "P62 1\n255\n" reads Malformed)
     ∷ (ascii "P6\n2\n255\n" reads Malformed)
     ∷ (ascii "P6\n2 1\n255" reads Malformed)

@@ -1,9 +1,9 @@
 -- The same header as a grammar, apart from any way of reading it.
-use Rattle.std.specs.Prelude.{◌≡◌, true, List, [], ◌∷◌, ◌++◌, ℕ, ◌*◌, ◌≤◌, ◌<◌, length}
+use Rattle.std.specs.Prelude.{◌≡◌, true, false, List, [], ◌∷◌, ◌++◌, ℕ, ◌*◌, ◌≤◌, ◌<◌, length}
 use Rattle.tables.specs.Table.{at}
 use Rattle.text.specs.Decimal.{Digits, value}
 use Rattle.text.specs.Text.{ascii}
-use Rattle.scanning.specs.Scanning.{is_space}
+use Rattle.scanning.specs.Scanning.{is_space, starts_comment, ends_comment}
 use Rattle.netpbm.specs.Header.{header_limit, area_limit, Accepted, Malformed, judged, header_of, header_text}
 
 -- The parts of a header after its letters, in their order.
@@ -28,10 +28,25 @@ text_of p =
     ++ p.largest
     ++ (p.last ∷ [])
 
--- "White space is one or more of space, tab, LF, VT, FF, CR."
-pub record WhiteSpace (bytes : List ℕ) : Type 0 where
-  pub some : 0 < length bytes
-  pub spaces : (i : ℕ) → i < length bytes → is_space (at bytes i) ≡ true
+-- "From a # to the end of its line (LF or CR)", which belongs to it: a #, bytes that are neither LF nor CR, and one that is.
+pub record Comment (bytes : List ℕ) : Type 0 where
+  pub first : ℕ
+  pub text : List ℕ
+  pub last : ℕ
+  pub starts : starts_comment first ≡ true
+  pub inside : (i : ℕ) → i < length text → ends_comment (at text i) ≡ false
+  pub ends : ends_comment last ≡ true
+  pub split : bytes ≡ first ∷ (text ++ (last ∷ []))
+
+-- "space, tab, LF, VT, FF, CR", and a comment "counts as white space".
+pub data Piece : List ℕ → Type 0 where
+  space : {b : ℕ} → is_space b ≡ true → Piece (b ∷ [])
+  comment : {bytes : List ℕ} → Comment bytes → Piece bytes
+
+-- "White space is one or more of" these.
+pub data WhiteSpace : List ℕ → Type 0 where
+  one : {piece : List ℕ} → Piece piece → WhiteSpace piece
+  more : {piece rest : List ℕ} → Piece piece → WhiteSpace rest → WhiteSpace (piece ++ rest)
 
 -- "A number has 1 to 5 decimal digits; leading zeros are allowed."
 pub record Numeral (bytes : List ℕ) : Type 0 where
@@ -57,12 +72,13 @@ pub record HasHeader (file : List ℕ) : Type 0 where
   pub samples : List ℕ
   pub split : file ≡ text_of parts ++ samples
 
--- Claim: a header is read as what its parts say, whatever follows it, and every file that does not begin with one is malformed.
--- Proved: proofs/Grammar.antt, `reading_is_the_grammar`.
+-- Claim: a header is read as what its parts say, whatever follows it; every file that does not begin with one is malformed; and a file
+-- begins with one in one way only. Proved: proofs/Grammar.antt, `reading_is_the_grammar`.
 pub record ReadingIsTheGrammar : Type 0 where
   pub complete : (p : Parts) → IsHeader p → (samples : List ℕ)
       → header_of (text_of p ++ samples) ≡ judged (value p.width) (value p.height) (value p.largest) (length (text_of p))
   pub sound : (file : List ℕ) → (header_of file ≡ Malformed → ⊥) → HasHeader file
+  pub unique : (p q : Parts) → IsHeader p → IsHeader q → (samples others : List ℕ) → text_of p ++ samples ≡ text_of q ++ others → p ≡ q
 
 -- Claim: reading what was written gives the same picture back. Proved: proofs/Grammar.antt, `written_is_read`.
 abbrev pub WrittenIsRead : Type 0

@@ -1,5 +1,5 @@
 -- The header of a Netpbm P6 image (document 01, "Frames from a file"): what reading it answers, and how it is written.
-use Rattle.std.specs.Prelude.{◌≡◌, Bool, ◌&&◌, ◌||◌, not, cond, List, ◌++◌, ℕ, ◌+◌, ◌*◌, ◌≤◌, ◌<◌, leb, ltb, eqb, length, take, drop, Result, Ok, Err}
+use Rattle.std.specs.Prelude.{◌≡◌, Bool, true, false, ◌&&◌, ◌||◌, not, cond, List, [], ◌∷◌, ◌++◌, ℕ, suc, ◌+◌, ◌*◌, ◌≤◌, ◌<◌, leb, ltb, eqb, length, take, drop, Result, Ok, Err}
 use Prim.Native.Char.{code}
 use Rattle.refusal.specs.Numbers.{number_in}
 use Rattle.refusal.specs.declared.Refusal.{Refusal}
@@ -7,13 +7,13 @@ use Rattle.refusal.specs.declared.Refusal.TheVariants.{HeaderMalformed, OtherLar
 use Rattle.tables.specs.Table.{at}
 use Rattle.text.specs.Decimal.{is_digit, value, decimal}
 use Rattle.text.specs.Text.{ascii}
-use Rattle.scanning.specs.Scanning.{is_space, run_length}
+use Rattle.scanning.specs.Scanning.{is_space, starts_comment, ends_comment, run_length}
 use Rattle.netpbm.specs.declared.Field.{Field}
 use Rattle.netpbm.specs.declared.Header.{Header}
 
--- "The header, its last white-space byte included, has at most 64 bytes."
+-- "The header may now have 512 bytes, comments included" (document 02, wish 2), "its last white-space byte included".
 abbrev pub header_limit : ℕ
-header_limit = 64
+header_limit = 512
 
 -- "Width times height is 1 to 16,384."
 abbrev pub area_limit : ℕ
@@ -48,14 +48,25 @@ Number n end = Ok (record { number = n; end = end })
 abbrev pub NoNumber : FieldReading
 NoNumber = Err HeaderMalformed
 
--- The field that begins at a place: white space, then a number. "White space is one or more of" what `is_space` has. "A number has 1 to
--- 5 decimal digits; leading zeros are allowed." The answer has the number, and the place after it.
+-- How many bytes of white space the bytes begin with: "one or more of" what `is_space` has, and "from a # to the end of its line (LF or
+-- CR) counts as white space" (document 02, wish 2). The first argument tells whether they begin within a comment; one that never ends
+-- reaches to the last byte.
+unfoldable pub white_length : Bool → List ℕ → ℕ
+white_length in_comment [] = 0
+white_length true (b ∷ bytes) = suc (white_length (not (ends_comment b)) bytes)
+white_length false (b ∷ bytes) =
+    cond (is_space b) (suc (white_length false bytes))
+    (cond (starts_comment b) (suc (white_length true bytes))
+    0)
+
+-- The field that begins at a place: white space, then a number. "A number has 1 to 5 decimal digits; leading zeros are allowed." The
+-- answer has the number, and the place after it.
 unfoldable pub field_at : List ℕ → ℕ → FieldReading
 field_at bytes place =
-    let spaces = run_length is_space (drop place bytes) in
-    let first = place + spaces in
+    let white = white_length false (drop place bytes) in
+    let first = place + white in
     let digits = run_length is_digit (drop first bytes) in
-    cond (leb 1 spaces && leb 1 digits && leb digits 5) (Number (value (take digits (drop first bytes))) (first + digits)) NoNumber
+    cond (leb 1 white && leb 1 digits && leb digits 5) (Number (value (take digits (drop first bytes))) (first + digits)) NoNumber
 
 -- What follows a number; where there is none, that refusal.
 abbrev pub after_number : FieldReading → (ℕ → ℕ → Reading) → Reading

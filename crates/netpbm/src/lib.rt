@@ -1,16 +1,19 @@
 // The header of a Netpbm P6 image, read and written (document 01, "Frames from a file"). No other crate knows its form.
 #![tactic(auto)]
 
-ghost use Rattle.std.specs.Prelude.{◌≡◌, ◌*◌, ◌≤◌, length};
+ghost use Rattle.std.specs.Prelude.{◌≡◌, ◌+◌, ◌*◌, ◌≤◌, false, drop, length};
+ghost use Rattle.tables.specs.Table.{at};
 ghost use Rattle.text.specs.Text.{Writes};
-ghost use Rattle.netpbm.specs.Header.{field_at, judged, header_in, header_of, header_text};
+ghost use Rattle.scanning.specs.Scanning.{starts_comment, in_class, run_length};
+ghost use Rattle.scanning.specs.declared.Class.TheVariants.{Comment};
+ghost use Rattle.netpbm.specs.Header.{white_length, field_at, judged, header_in, header_of, header_text};
 
 use refusal::Refusal;
 use scanning::Class;
 use text::Writer;
 
-// A header has at most so many bytes.
-pub const HEADER_LIMIT: usize = 64;
+// A header has at most so many bytes, its comments included.
+pub const HEADER_LIMIT: usize = 512;
 
 // Width times height is at most so much.
 pub const AREA_LIMIT: u64 = 16384;
@@ -46,11 +49,37 @@ struct Field {
     end: usize,
 }
 
+// Whether a comment begins at `place`.
+#[tactic(auto, using(crate::proofs::Bytes::byte_is))]
+fn comment_at(bytes: &[u8], place: usize) -> bool
+    ensures { result ≡ starts_comment (at bytes.now place) }
+{
+    bytes.get(place) == Some(&b'#')
+}
+
+// The place of the byte that ends the line of the comment at `place`: LF or CR, which is white space too.
+fn line_end(bytes: &[u8], place: usize) -> usize
+    ensures { result ≡ place + run_length (in_class Comment) (drop place bytes.now) }
+{
+    scanning::run_end(Class::Comment, bytes, place)
+}
+
+// The place after the white space that stands at `place`, comments included.
+fn white_end(bytes: &[u8], place: usize) -> usize
+    ensures { result ≡ place + white_length false (drop place bytes.now) }
+{
+    let mut end = scanning::run_end(Class::Space, bytes, place);
+    while comment_at(bytes, end) {
+        end = scanning::run_end(Class::Space, bytes, line_end(bytes, end));
+    }
+    end
+}
+
 // The field that begins at `place`.
 fn read_field(bytes: &[u8], place: usize) -> Result<Field, Refusal>
     ensures { result ≡ field_at bytes.now place }
 {
-    let first = scanning::run_end(Class::Space, bytes, place);
+    let first = white_end(bytes, place);
     let end = scanning::run_end(Class::Digit, bytes, first);
     if first == place || end == first || DIGIT_LIMIT < end - first {
         return Err(Refusal::HeaderMalformed);

@@ -41,6 +41,12 @@ module _ (test : ℕ → Bool) where
   run_none [] rest some e = absurd (omega arith)
   run_none (b ∷ front) rest some e = rw e refl
 
+  -- what comes after a run does not pass
+  pub run_stops : (bytes : List ℕ) → run_length test (drop (run_length test bytes) bytes) ≡ 0
+  unfolding run_length
+  run_stops [] = refl
+  run_stops (b ∷ bytes) = cases (test b) (λ e. rw e (run_stops bytes)) (λ e. rw (e, e) refl)
+
   -- the run itself
   pub length_run : (bytes : List ℕ) → length (take (run_length test bytes) bytes) ≡ run_length test bytes
   length_run bytes = rw run_is (length-prefix_len test bytes)

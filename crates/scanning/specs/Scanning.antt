@@ -3,7 +3,7 @@ use Rattle.std.specs.Prelude.{◌≡◌, Bool, true, false, ◌&&◌, ◌||◌, 
 use Prim.Native.Char.{code}
 use Rattle.text.specs.Decimal.{is_digit}
 use Rattle.scanning.specs.declared.Class.{Class}
-use Rattle.scanning.specs.declared.Class.TheVariants.{Space, Digit, HexDigit, Word, Uncommented, Line}
+use Rattle.scanning.specs.declared.Class.TheVariants.{Space, Digit, HexDigit, Word, Uncommented, Comment, Line}
 
 -- "space, tab, LF, VT, FF, CR" (document 01, "Frames from a file")
 abbrev pub is_space : ℕ → Bool
@@ -17,14 +17,23 @@ is_letter_from first b = leb first b && leb (b - first) 5
 abbrev pub is_hex_digit : ℕ → Bool
 is_hex_digit b = is_digit b || is_letter_from (code "a") b || is_letter_from (code "A") b
 
--- Whether a byte is of a class. A word is made of all but white space, what stands before a comment of all but #, and a line of all
--- but LF.
+-- A comment begins with #.
+abbrev pub starts_comment : ℕ → Bool
+starts_comment b = eqb b (code "#")
+
+-- A header's ends with its line: "from a # to the end of its line (LF or CR)" (document 02, wish 2).
+abbrev pub ends_comment : ℕ → Bool
+ends_comment b = eqb b 10 || eqb b 13
+
+-- Whether a byte is of a class. A word is made of all but white space, what stands before a comment of all but #, what stands in a
+-- header's comment of all but LF and CR, and a line of all but LF.
 abbrev pub in_class : Class → ℕ → Bool
 in_class Space b = is_space b
 in_class Digit b = is_digit b
 in_class HexDigit b = is_hex_digit b
 in_class Word b = not (is_space b)
-in_class Uncommented b = not (eqb b (code "#"))
+in_class Uncommented b = not (starts_comment b)
+in_class Comment b = not (ends_comment b)
 in_class Line b = not (eqb b 10)
 
 -- How many bytes pass the test before the first that does not.

@@ -19,6 +19,8 @@ pub enum Class {
     Word,
     // What stands before a comment: all but #.
     Uncommented,
+    // What stands in a header's comment, its # included: all but LF and CR, which end it.
+    Comment,
     // What a line is made of: all but LF.
     Line,
 }
@@ -40,6 +42,7 @@ pub fn in_class(class: Class, b: u8) -> bool
         Class::HexDigit => b.is_ascii_hexdigit(),
         Class::Word => !is_space(b),
         Class::Uncommented => b != b'#',
+        Class::Comment => b != b'\n' && b != b'\r',
         Class::Line => b != b'\n',
     }
 }

@@ -19,7 +19,7 @@ use Rattle.text.specs.Text.{written_at}
 use Rattle.text.specs.Decimal.{value_after}
 use Rattle.text.proofs.Runs.{length_written}
 use Rattle.scanning.specs.Scanning.{run_length}
-use Rattle.netpbm.specs.Header.{header_limit, Reading, Accepted, field_at, header_in, header_of}
+use Rattle.netpbm.specs.Header.{header_limit, Reading, Accepted, white_length, field_at, header_in, header_of}
 use Rattle.netpbm.proofs.Accepted.{accepted_headers_fit}
 use Rattle.netpbm.proofs.Written.{written_headers_fit}
 use Rattle.still.specs.Limits.{input_limit, largest_file, OneByteMore, FirstBytesAreEnough, AnswersFit}
@@ -39,8 +39,8 @@ largest_size : length largest_file + 1 ≡ input_limit
 unfolding largest_file
 largest_size = refl
 
-largest_reads : header_of largest_file ≡ Accepted (record { width = 128; height = 128; start = 64 })
-unfolding largest_file value_after run_length field_at header_in
+largest_reads : header_of largest_file ≡ Accepted (record { width = 128; height = 128; start = header_limit })
+unfolding largest_file value_after run_length white_length field_at header_in
 largest_reads = refl
 
 pub one_byte_more : OneByteMore

@@ -27,6 +27,8 @@ examples =
     ∷ (two_pixels ++ (10 ∷ 20 ∷ 30 ∷ 255 ∷ 255 ∷ 255 ∷ []) gives two_pixels ++ (95 ∷ 127 ∷ 159 ∷ 255 ∷ 255 ∷ 255 ∷ []))
     -- the header is written without leading zeros
     ∷ (ascii "P6 002 01 0255 " ++ replicate 3 100 ++ replicate 3 200 gives two_greys 127 255)
+    -- and without comments
+    ∷ (ascii "P6\n# job label\n2 1 # 2 pixels\r255\n" ++ replicate 3 100 ++ replicate 3 200 gives two_greys 127 255)
     -- 12; 13, also where samples are missing; 14, also where bytes follow
     ∷ ([] gives ascii "refused 12\n")
     ∷ (ascii "P6\n2 1\n255" gives ascii "refused 12\n")

@@ -1,5 +1,6 @@
 -- How much of a file is read, and how much is written at the most.
-use Rattle.std.specs.Prelude.{◌≡◌, List, ◌++◌, ℕ, ◌+◌, ◌*◌, ◌≤◌, ◌<◌, length, take, replicate}
+use Rattle.std.specs.Prelude.{◌≡◌, List, ◌++◌, ℕ, ◌+◌, ◌-◌, ◌*◌, ◌≤◌, ◌<◌, length, take, replicate}
+use Prim.Native.Char.{code}
 use Rattle.text.specs.Text.{ascii}
 use Rattle.netpbm.specs.Header.{header_limit, area_limit}
 use Rattle.still.specs.Still.{answer, output_limit, IsAccepted}
@@ -8,9 +9,10 @@ use Rattle.still.specs.Still.{answer, output_limit, IsAccepted}
 abbrev pub input_limit : ℕ
 input_limit = header_limit + 3 * area_limit + 1
 
--- An accepted file of the largest size.
+-- An accepted file of the largest size: a comment fills its header.
 unfoldable pub largest_file : List ℕ
-largest_file = ascii "P6" ++ replicate 50 32 ++ ascii "128 128\n255\n" ++ replicate (3 * area_limit) 0
+largest_file =
+    ascii "P6#" ++ replicate (header_limit - 16) (code "x") ++ ascii "\n128 128\n255\n" ++ replicate (3 * area_limit) 0
 
 -- Claim: `input_limit` is one byte more than the largest accepted file has. Proved: proofs/Limits.antt, `one_byte_more`.
 pub record OneByteMore : Type 0 where

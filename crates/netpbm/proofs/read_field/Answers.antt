@@ -6,7 +6,7 @@ use Rattle.netpbm.proofs.read_field.Goals.{then-first-place-via-then-first-place
 
 pub returns-then-first-place : goal.returns-then-first-place
 returns-then-first-place c =
-    let first = c.run_end-first.ensures in
+    let first = c.white_end-first.ensures in
     let end = scan_end _ _ _ _ first c.run_end-end.ensures in
     sym (field_none _ _ (λ spaces some most.
     elim c.then-first-place.branch [
@@ -17,25 +17,25 @@ returns-then-first-place c =
 
 pub slice_bounds-read_decimal-end : goal.slice_bounds-read_decimal-end
 slice_bounds-read_decimal-end c =
-    let found = scanned _ _ _ _ c.run_end-first.ensures c.run_end-end.ensures c.if-first-place.false c.if-end-first.false
+    let found = scanned _ _ _ _ c.white_end-first.ensures c.run_end-end.ensures c.if-first-place.false c.if-end-first.false
     c.if-end-first-gt-DIGIT_LIMIT.false in
     found.within
 
 pub read_decimal-number-requires : goal.read_decimal-number-requires
 read_decimal-number-requires c =
-    let found = scanned _ _ _ _ c.run_end-first.ensures c.run_end-end.ensures c.if-first-place.false c.if-end-first.false
+    let found = scanned _ _ _ _ c.white_end-first.ensures c.run_end-end.ensures c.if-first-place.false c.if-end-first.false
     c.if-end-first-gt-DIGIT_LIMIT.false in
     (omega (arith, found.few), found.digits)
 
 pub overflow_cast-number : goal.overflow_cast-number
 overflow_cast-number c =
-    let found = scanned _ _ _ _ c.run_end-first.ensures c.run_end-end.ensures c.if-first-place.false c.if-end-first.false
+    let found = scanned _ _ _ _ c.white_end-first.ensures c.run_end-end.ensures c.if-first-place.false c.if-end-first.false
     c.if-end-first-gt-DIGIT_LIMIT.false in
     omega (arith, c.read_decimal-number.ensures, found.small)
 
 -- the digits give the field's number, and where they end the field does
 pub returns : goal.returns
 returns c =
-    let found = scanned _ _ _ _ c.run_end-first.ensures c.run_end-end.ensures c.if-first-place.false c.if-end-first.false
+    let found = scanned _ _ _ _ c.white_end-first.ensures c.run_end-end.ensures c.if-first-place.false c.if-end-first.false
     c.if-end-first-gt-DIGIT_LIMIT.false in
     rw c.read_decimal-number.ensures (sym found.field)

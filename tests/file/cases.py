@@ -1,4 +1,4 @@
-"""The cases for `balance`: a name, the sentence or boundary of document 01 that it shows, the input, and the output by hand.
+"""The cases for `balance`: a name, the sentence or boundary of documents 01 and 02 that it shows, the input, and the output by hand.
 
     cases.py FOLDER    writes them there, to look at: NAME.ppm, the input, and NAME.out, the output
 
@@ -17,7 +17,7 @@ from exact_file import answer
 BY_TOOLS = pathlib.Path(__file__).resolve().parent / "by_tools"
 SEED = 20170101
 # how many cases there are, and how many of them have the output by hand; so that none is lost unseen
-CASES, BY_HAND = 297, 277
+CASES, BY_HAND = 384, 357
 
 
 def digest(data):
@@ -32,6 +32,8 @@ class Case(NamedTuple):
 
 
 HEADER = b"P6\n2 1\n255\n"
+# comments directly after the letters and after numbers, between white space, ended by LF and by CR
+COMMENTED_HEADER = b"P6#a\n2 #b\r1#\n\n#c\n255\n"
 SAMPLES = bytes([100, 100, 100, 200, 200, 200])
 BALANCED = HEADER + bytes([127, 127, 127, 255, 255, 255])
 
@@ -123,17 +125,29 @@ def padded(place, length):
     return b"".join(words)
 
 
+def commented(place, length):
+    """The reference header with a comment after its place-th word, so that it has `length` bytes."""
+    words = [b"P6", b"\n2", b" 1", b"\n255\n"]
+    words[place] += b"#" + b"x" * (length - len(HEADER) - 2) + b"\n"
+    return b"".join(words)
+
+
 def header_length():
-    limit = "The header, its last white-space byte included, has at most 64 bytes"
+    limit = "The header may have 512 bytes, comments included, its last white-space byte too"
     for place, name in enumerate(("p6", "width", "height")):
-        yield accepted(f"header_64_bytes_after_{name}", limit, padded(place, 64))
-        for length in 65, 66:
-            yield refused(f"header_{length}_bytes_after_{name}", limit, 12, padded(place, length) + SAMPLES)
-    yield accepted("header_63_bytes", limit, padded(0, 63))
-    yield accepted("header_64_bytes_five_digits", limit, b"P6" + 44 * b" " + b"00002 00001 00255\n")
-    yield refused("header_65_bytes_five_digits", limit, 12, b"P6" + 45 * b" " + b"00002 00001 00255\n" + SAMPLES)
+        for kind, filled in ("", padded), ("_comment", commented):
+            yield accepted(f"header_512_bytes{kind}_after_{name}", limit, filled(place, 512))
+            for length in 513, 514:
+                yield refused(f"header_{length}_bytes{kind}_after_{name}", limit, 12, filled(place, length) + SAMPLES)
+    for length in 64, 65, 255, 256, 511:
+        yield accepted(f"header_{length}_bytes", limit, padded(0, length))
+    yield accepted("header_512_bytes_five_digits", limit, b"P6" + 492 * b" " + b"00002 00001 00255\n")
+    yield refused("header_513_bytes_five_digits", limit, 12, b"P6" + 493 * b" " + b"00002 00001 00255\n" + SAMPLES)
     yield refused("header_1000_bytes", limit, 12, padded(1, 1000) + SAMPLES)
+    yield refused("header_1000_bytes_comment", limit, 12, commented(1, 1000) + SAMPLES)
     yield refused("white_space_without_end", limit, 12, b"P6" + 1000 * b"\n")
+    yield accepted("comments_512_bytes", limit, b"P6" + 251 * b"#\n" + b"2 1\n255\n")
+    yield refused("comments_514_bytes", limit, 12, b"P6" + 252 * b"#\n" + b"2 1\n255\n" + SAMPLES)
 
 
 def numbers():
@@ -164,19 +178,69 @@ def numbers():
 
 
 def comments():
+    white = "From a # to the end of its line (LF or CR) counts as white space"
     for name, header in (
-        ("before_p6", b"# label\nP6\n2 1\n255\n"),
-        ("at_p6", b"P6# label\n2 1\n255\n"),
-        ("after_p6", b"P6\n# label\n2 1\n255\n"),
-        ("empty", b"P6\n#\n2 1\n255\n"),
+        ("after_p6", b"P6\n# job label\n2 1\n255\n"),
         ("after_width", b"P6\n2 # label\n1\n255\n"),
         ("after_height", b"P6\n2 1 # label\n255\n"),
+        ("at_p6", b"P6# label\n2 1\n255\n"),
+        ("at_width", b"P6\n2#label\n1\n255\n"),
+        ("at_height", b"P6\n2 1#label\n255\n"),
+        ("at_each", b"P6#a\n2#b\n1#c\n255\n"),
+        ("before_a_number_directly", b"P6\n#\n2 #\n1 #\n255\n"),
+        ("empty", b"P6\n#\n2 1\n255\n"),
+        ("between_white_space", b"P6 \t# label\n \t2 1\n255\n"),
+        ("two", b"P6\n# one\n# two\n2 1\n255\n"),
+        ("many", b"P6" + 40 * b"#\n" + b"2" + 40 * b" #\n" + b"1" + 40 * b"#\n " + b"255\n"),
         ("ended_by_cr", b"P6\n2 1 # label\r255\n"),
-        ("inside_number", b"P6\n2 1\n2# label\n55\n"),
-        ("after_largest", b"P6\n2 1\n255# label\n"),
-        ("without_end", b"P6\n2 1 # label 255"),
+        ("ended_by_cr_lf", b"P6\r\n# label\r\n2 1\r\n255\n"),
+        ("ended_by_lf_cr", b"P6\n# label\n\r2 1\n255\n"),
+        ("with_vt_and_ff", b"P6\n# 3\v4\f5\n2 1\n255\n"),
+        ("with_hash", b"P6\n# a # 3 #\n2 1\n255\n"),
+        ("with_only_hashes", b"P6\n########\n2 1\n255\n"),
+        ("with_digits", b"P6\n#3 4 255\n2 1\n255\n"),
+        ("with_a_header", b"P6\n#P6 3 4 255 \n2 1\n255\n"),
+        ("with_nul", b"P6\n#\0\0\n2 1\n255\n"),
+        ("in_utf_8", "P6\n# Szene 7, Größe übernommen\n2 1\n255\n".encode()),
+        ("with_next_line", b"P6\n#\x853\n2 1\n255\n"),
+        ("with_each_byte", b"P6\n#" + bytes(b for b in range(256) if b not in b"\n\r") + b"\n2 1\n255\n"),
+        ("with_leading_zeros", b"P6\n# label\n00002 001\n0255\n"),
+        ("as_ppmhist_writes_it", b"P6 # color map\n2 1 255\n"),
     ):
-        yield refused(f"comment_{name}", "Comments are not read", 12, header + SAMPLES)
+        yield accepted(f"comment_{name}", white, header)
+    yield accepted("comment_splits_digits", f"{white}: 1, a comment, 2 are two numbers", b"P6\n1#x\n2 255\n", by_hand=sized(1, 2) + BALANCED[-6:])
+    first = "before the largest sample value: samples may begin with #"
+    yield accepted("comment_and_first_samples_hash", first, b"P6\n# label\n2 1\n255\n", b"###" + SAMPLES[3:])
+    for name, header in (
+        ("before_p6", b"# label\nP6\n2 1\n255\n"),
+        ("inside_p6", b"P#\n6\n2 1\n255\n"),
+        ("inside_largest", b"P6\n2 1\n2# label\n55\n"),
+        ("at_largest", b"P6\n2 1\n255# label\n"),
+        ("at_largest_empty", b"P6\n2 1\n255#\n"),
+        ("at_largest_and_space", b"P6\n2 1\n255#\n "),
+        ("without_end", b"P6\n2 1 # label 255"),
+        ("without_end_and_space", b"P6\n2 1 # label 255 "),
+        ("ended_by_vt_or_ff_only", b"P6\n2 1 # label\v255 # label\f255 "),
+    ):
+        yield refused(f"comment_{name}", f"{white} wherever white space may stand before the largest sample value", 12, header + SAMPLES)
+    endless = "12 covers a comment that never ends"
+    yield refused("comment_file_ends_in_it", endless, 12, b"P6\n# label")
+    yield refused("comment_file_ends_at_hash", endless, 12, b"P6\n2 1\n#")
+    yield refused("comment_ends_too_late", endless, 12, b"P6 2 1 #" + 600 * b"x" + b"\n255\n" + SAMPLES)
+    yield refused("comment_reaches_end_of_file", endless, 12, b"P6 2 1 #" + 60000 * b"x")
+    after = "exactly one white-space byte follows the largest sample value; then the samples"
+    yield refused("comment_after_last_white_space", f"{after}: # is one", 16, HEADER + b"# label\n" + SAMPLES)
+
+
+def comment_cuts():
+    """A file with comments cut after each of its bytes but the last."""
+    file = COMMENTED_HEADER + SAMPLES
+    for length in range(len(file)):
+        if length < len(COMMENTED_HEADER):
+            yield refused(f"comment_cut_after_{length:02}", "12: the header ends early, or a comment never does", 12, file[:length])
+        else:
+            yield refused(f"comment_cut_after_{length:02}", "15: fewer samples than the header says", 15, file[:length])
+    yield accepted("comment_not_cut", "the same file, whole", COMMENTED_HEADER)
 
 
 def largest_values():
@@ -229,7 +293,7 @@ def after_the_samples():
 
 def first_named():
     """Two or more refusals apply, and the first of 12, 13, 14, 15, 16 is named."""
-    long = padded(1, 65)
+    long = padded(1, 513)
     for name, number, file in (
         ("12_13", 12, b"P6\n2 1\n254" + SAMPLES),
         ("12_13_six_digits", 12, sized(2, 1, "000254") + SAMPLES),
@@ -254,6 +318,9 @@ def first_named():
         ("13_16", 13, sized(2, 1, 254) + SAMPLES + b"\0"),
         ("13_16_two_bytes_a_sample", 13, sized(2, 1, 65535) + 2 * SAMPLES),
         ("13_14_16", 13, sized(0, 1, 254) + SAMPLES),
+        ("12_13_endless_comment", 12, b"P6\n2 1#\n254#" + SAMPLES),
+        ("13_comment", 13, b"P6\n2 1\n#255\n254\n" + SAMPLES),
+        ("14_comment", 14, b"P6\n0#2\n1\n255\n" + SAMPLES),
         ("14_15", 14, sized(16385, 1) + SAMPLES),
         ("14_16", 14, sized(0, 1) + b"\0"),
         ("14_16_picture", 14, sized(1, 0) + SAMPLES),
@@ -327,19 +394,21 @@ def large():
         yield refused(f"full_{width}_by_{height}", limit, 14, sized(width, height) + samples[: 3 * width * height])
     yield refused("first_of_14_16_large", "The first that applies is named", 14, sized(16385, 1) + samples + b"\0")
 
-    longest = b"P6" + 50 * b" " + b"128 128\n255\n"
-    yield accepted("longest", "the longest input that is taken, 49,216 bytes", longest, full, None)
+    longest = b"P6#" + 496 * b"x" + b"\n128 128\n255\n"
+    yield accepted("longest", "the longest input that is taken, 49,664 bytes", longest, full, None)
+    yield accepted("longest_of_spaces", "the same with white space in place of the comment", b"P6" + 498 * b" " + b"128 128\n255\n", full, None)
     yield refused("longest_less_one_byte", "15: fewer samples than the header says", 15, longest + full[:-1])
     for more in 1, 2, 3, 100_000:
         yield refused(f"longest_and_{more}", "16: bytes after the samples", 16, longest + full + bytes(more))
-    yield refused("longest_header_65", "The header ... has at most 64 bytes", 12, b"P6 " + longest[2:] + full)
+    yield refused("longest_header_513", "The header may have 512 bytes", 12, b"P6 " + longest[2:] + full)
     yield refused("short_header_and_1", "16: bytes after the samples", 16, sized(128, 128) + full + b"\0")
     yield refused("no_header_at_all", "12: the header is not as above", 12, full)
 
 
 def tools():
-    """Files that Netpbm's and ImageMagick's own programs wrote, with their digests; by_tools/TOOLS.md has the commands."""
+    """Files that tools wrote, with their digests; by_tools/TOOLS.md has the commands."""
     taken = "a tool's file in the form that document 01 takes"
+    commented = "a tool's file with comments in its header, as document 02 takes it"
     for name, due, shows, number in (
         ("netpbm_ramp", "76ea2d722ac31936", taken, None),
         ("netpbm_gingham", "e979303d1984f3c9", taken, None),
@@ -348,11 +417,18 @@ def tools():
         ("netpbm_15", "5a132d4d1f34bcaa", "13: the largest sample value is not 255", 13),
         ("netpbm_plain", "ee25334f612242b5", "Header: the letters P6", 12),
         ("netpbm_grey", "80078279dee3ee67", "Header: the letters P6", 12),
+        ("netpbm_colour_map", "d26472721c2c35b6", "Header: the letters P6", 12),
         ("netpbm_two_images", "d095ab6fce82e698", "16: bytes after the samples", 16),
         ("imagemagick_rose", "0ef4f0a1e76fe682", taken, None),
         ("imagemagick_gradient", "5ac2410c7e593885", taken, None),
         ("imagemagick_16_bits", "59272de2a492765d", "13: the largest sample value is not 255", 13),
-        ("imagemagick_comment", "f1c5a1b03c67fad8", "Comments are not read", 12),
+        ("imagemagick_comment", "f1c5a1b03c67fad8", commented, None),
+        ("imagemagick_comment_lines", "7070b0252e3177df", commented, None),
+        ("imagemagick_header_512", "8dbb83020884a8ca", commented, None),
+        ("imagemagick_header_513", "eb90396a67f30ad7", "The header may have 512 bytes, comments included", 12),
+        ("gimp_gradient", "d3c2db5a95d61ad8", commented, None),
+        ("ghostscript_page", "c51e9c28456adad6", commented, None),
+        ("vips_gradient", "dd2f2edf5e781d87", commented, None),
         ("imagemagick_two_images", "d095ab6fce82e698", "16: bytes after the samples", 16),
     ):
         path = BY_TOOLS / f"{name}.ppm"
@@ -381,17 +457,25 @@ PICTURES = {
     "full_128_by_128": "f9365740615ab146",
     "full_127_by_129": "e544fb1ba6e14431",
     "longest": "f9365740615ab146",
+    "longest_of_spaces": "f9365740615ab146",
     "netpbm_ramp": "54f1f61f886165d7",
     "netpbm_gingham": "700e06b0083cf3e7",
     "netpbm_camouflage_scaled": "fd3f59efb88b3630",
     "imagemagick_rose": "dd24ff65fcfddd8b",
     "imagemagick_gradient": "e7e601f45c6ac29b",
+    "imagemagick_comment": "73ca2330549464ea",
+    "imagemagick_comment_lines": "e7e601f45c6ac29b",
+    "imagemagick_header_512": "73ca2330549464ea",
+    "gimp_gradient": "e7e601f45c6ac29b",
+    "ghostscript_page": "838fad42aebc4db3",
+    "vips_gradient": "e7e601f45c6ac29b",
 }
 
 
 def table():
     groups = (
-        reference, letters, cuts, white_space, last_white_space, header_length, numbers, comments, largest_values, sizes,
+        reference, letters, cuts, white_space, last_white_space, header_length, numbers, comments, comment_cuts, largest_values,
+        sizes,
         after_the_samples, first_named, moves, pictures, large, tools,
     )
     cases = [case for group in groups for case in group()]

@@ -18,12 +18,13 @@ import tempfile
 import time
 
 import exact_file
-from cases import BY_HAND, BY_TOOLS, CASES, HEADER, PICTURES, SAMPLES, WHITE, digest, table
+from cases import BY_HAND, BY_TOOLS, CASES, COMMENTED_HEADER, HEADER, PICTURES, SAMPLES, WHITE, digest, table
 
 SAMPLES_FOLDER = pathlib.Path(__file__).resolve().parents[2] / "samples"
 DEFAULT_SEED = 20170101
 MUTATED = 1000
-MOST_READ = 64 + 3 * 16384 + 1
+COMMENTED = 1000
+MOST_READ = 512 + 3 * 16384 + 1
 LONGEST_RUN = 60  # seconds
 REFUSALS = [b"refused %d\n" % number for number in (12, 13, 14, 15, 16)]
 
@@ -117,34 +118,34 @@ def samples():
     print(f"file: samples: {len(drawings)} pictures")
 
 
-def generated(group, files):
-    """Compares the program with exact_file.py; every kind of answer must be among those expected."""
+def generated(group, files, refusals=REFUSALS):
+    """Compares the program with exact_file.py; a picture and each of the refusals must be among the answers expected."""
     kinds = collections.Counter()
     for name, file in files:
         expected = answer(file)
         kinds[expected if expected in REFUSALS else b"accepted"] += 1
         expect(f"{group}: {name}: {shown(file)}", [PROGRAM], expected, input=file)
-    for kind in [b"accepted", *REFUSALS]:
+    for kind in [b"accepted", *refusals]:
         if not kinds[kind]:
             fault(group, f"no input is {kind.decode().strip()}")
     counts = ", ".join(f"{count} {kind.decode().strip()}" for kind, count in sorted(kinds.items()))
     print(f"file: {group}: {sum(kinds.values())} inputs: {counts}")
 
 
-def every_byte():
-    """The reference file with each byte of its header replaced by every other."""
-    file = HEADER + SAMPLES
-    for place in range(len(HEADER)):
+def every_byte(header):
+    """The reference samples after this header, with each byte of it replaced by every other."""
+    file = header + SAMPLES
+    for place in range(len(header)):
         for byte in range(256):
             if byte != file[place]:
                 yield f"byte {place} is {byte}", file[:place] + bytes([byte]) + file[place + 1 :]
 
 
-def edited(file):
-    """One byte of the first 17 replaced, inserted or deleted, or now and then the end cut or lengthened."""
+def edited(file, end):
+    """One byte up to `end` and the next five replaced, inserted or deleted, or now and then the end cut or lengthened."""
     if RANDOM.random() < 0.15:
         return RANDOM.choice((file[: -RANDOM.randint(1, 3)], file + RANDOM.randbytes(RANDOM.randint(1, 3))))
-    place = RANDOM.randrange(min(len(file), 16) + 1)
+    place = RANDOM.randrange(min(len(file), end + 5) + 1)
     byte = RANDOM.choice([*WHITE.values(), *(b"%d" % digit for digit in range(10)), b"#", b"-", RANDOM.randbytes(1)])
     return file[:place] + RANDOM.choice((byte + file[place + 1 :], byte + file[place:], file[place + 1 :]))
 
@@ -154,10 +155,35 @@ def mutated(cases):
     good = [case for case in cases if len(case.file) <= 1000 and answer(case.file) != REFUSALS[0]]
     for _ in range(MUTATED):
         case = RANDOM.choice(good)
-        file = case.file
+        file, end = case.file, exact_file.HEADER.match(case.file).end()
         for _ in range(RANDOM.choice((1, 1, 2, 3))):
-            file = edited(file)
+            file = edited(file, end)
         yield case.name, file
+
+
+def comment():
+    """A comment of up to some hundred bytes, the most of them short; now and then with no end of its own."""
+    text = bytes(RANDOM.choice(b"# 0127\t\v\f\0x\xff") for _ in range(int(RANDOM.expovariate(1 / 12))))
+    return b"#" + text + RANDOM.choice((b"\n", b"\n", b"\n", b"\r", b"\r", b"\r\n", b"\n\r", RANDOM.choice((b"", b"\n"))))
+
+
+def white():
+    """White space with comments: here and there none where some is due."""
+    pieces = [RANDOM.choice((comment(), *WHITE.values())) for _ in range(RANDOM.choice((1, 1, 1, 2, 3, 4, 8)))]
+    return b"".join(pieces) if RANDOM.random() < 0.99 else b""
+
+
+def commented():
+    """Files whose headers have comments at random; one header in five is filled to 509 to 515 bytes by one of its comments."""
+    for number in range(COMMENTED):
+        words = [b"P6", white(), b"2", white(), b"1", white(), b"255", RANDOM.choice(list(WHITE.values()))]
+        header = b"".join(words)
+        more = RANDOM.randint(509, 515) - len(header)
+        if number % 5 == 0 and more >= 2:
+            words.insert(RANDOM.choice((1, 3, 5)), b"#" + b"x" * (more - 2) + RANDOM.choice((b"\n", b"\r")))
+            header = b"".join(words)
+        after = RANDOM.choice((b"", b"", b"", b"", b"", b"", b"#\n", b"\n"))
+        yield f"number {number}", header + after + SAMPLES[: RANDOM.choice((6, 6, 6, 6, 6, 5))]
 
 
 def in_pieces(case, file, length):
@@ -225,8 +251,10 @@ def main():
     each_case(cases)
     samples()
     streams(cases)
-    generated("every byte of the header", every_byte())
+    generated("every byte of the header", every_byte(HEADER))
+    generated("every byte of a header with comments", every_byte(COMMENTED_HEADER))
     generated("mutated", mutated(cases))
+    generated("comments at random", commented(), [kind for kind in REFUSALS if kind not in (b"refused 13\n", b"refused 14\n")])
     if faults:
         sys.exit(f"file: FAILED: {len(faults)} faults in {inputs} inputs, seed {SEED}")
     print(f"file: {inputs} inputs, seed {SEED}: ok")

@@ -1,6 +1,7 @@
-"""Document 01's "Frames from a file" in plain integers: what the program `balance` writes for a given input.
+"""Document 01's "Frames from a file", with document 02's comments, in plain integers: what the program `balance` writes for a given
+input.
 
-Written from the document alone. The header is one regular expression, which is not how the program reads it.
+Written from the documents alone. The header is one regular expression, which is not how the program reads it.
 """
 
 import pathlib
@@ -10,10 +11,12 @@ import sys
 sys.path.insert(0, str(pathlib.Path(__file__).resolve().parent.parent))
 from exact import balanced
 
-WHITE = rb"[ \t\n\v\f\r]"
+SPACE = rb"[ \t\n\v\f\r]"
+COMMENT = rb"#[^\n\r]*[\n\r]"
+WHITE = rb"(?:" + SPACE + rb"|" + COMMENT + rb")+"
 NUMBER = rb"([0-9]{1,5})"
-HEADER = re.compile(rb"P6" + 3 * (WHITE + rb"+" + NUMBER) + WHITE)
-LONGEST_HEADER = 64
+HEADER = re.compile(rb"P6" + 3 * (WHITE + NUMBER) + SPACE)
+LONGEST_HEADER = 512
 MOST_PIXELS = 16384
 CUBE = 1
 YANG_LEE = 2

@@ -1,4 +1,4 @@
--- No byte is both white space and a digit.
+-- Bytes of a header: none is both white space and a digit; and what stands at a place.
 use Rattle.std.proofs.Common.{Option, Some, None, MatchOption}
 use Rattle.std.proofs.Math.Nat.{le_refl}
 use Rattle.std.specs.Slice.{IsItemAt}

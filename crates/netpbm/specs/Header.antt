@@ -1,4 +1,5 @@
--- The header of a Netpbm P6 image (document 01, "Frames from a file"): what reading it answers, and how it is written.
+-- The header of a Netpbm P6 image (document 01, "Frames from a file"; document 02, "Comments in frames"): what reading it
+-- answers, and how it is written.
 use Rattle.std.specs.Prelude.{◌≡◌, Bool, true, false, ◌&&◌, ◌||◌, not, cond, List, [], ◌∷◌, ◌++◌, ℕ, suc, ◌+◌, ◌*◌, ◌≤◌, ◌<◌, leb, ltb, eqb, length, take, drop, Result, Ok, Err}
 use Prim.Native.Char.{code}
 use Rattle.refusal.specs.Numbers.{number_in}
@@ -49,8 +50,8 @@ abbrev pub NoNumber : FieldReading
 NoNumber = Err HeaderMalformed
 
 -- How many bytes of white space the bytes begin with: "one or more of" what `is_space` has, and "from a # to the end of its line (LF or
--- CR) counts as white space" (document 02, wish 2). The first argument tells whether they begin within a comment; one that never ends
--- reaches to the last byte.
+-- CR) counts as white space" (document 02, wish 2). The first argument tells whether they begin within a comment, as no field does. A
+-- comment that never ends reaches to the last byte.
 unfoldable pub white_length : Bool → List ℕ → ℕ
 white_length in_comment [] = 0
 white_length true (b ∷ bytes) = suc (white_length (not (ends_comment b)) bytes)

@@ -1,4 +1,5 @@
-// The header of a Netpbm P6 image, read and written (document 01, "Frames from a file"). No other crate knows its form.
+// The header of a Netpbm P6 image, read and written (document 01, "Frames from a file"; document 02, "Comments in
+// frames"). No other crate knows its form.
 #![tactic(auto)]
 
 ghost use Rattle.std.specs.Prelude.{◌≡◌, ◌+◌, ◌*◌, ◌≤◌, false, drop, length};
@@ -57,7 +58,7 @@ fn comment_at(bytes: &[u8], place: usize) -> bool
     bytes.get(place) == Some(&b'#')
 }
 
-// The place of the byte that ends the line of the comment at `place`: LF or CR, which is white space too.
+// The place of the byte that ends the comment at `place`: LF or CR, which is white space too. Where none does, the end of the bytes.
 fn line_end(bytes: &[u8], place: usize) -> usize
     ensures { result ≡ place + run_length (in_class Comment) (drop place bytes.now) }
 {

@@ -29,7 +29,7 @@ ORDINALS = ["1st", "2nd", "3rd", "4th", "5th", "6th"]
 LIMITS = {
     "pixel_limit": ("measuring/specs/Histogram.antt", [CALLS, RULES]),
     "area_limit": ("netpbm/specs/Header.antt", [CALLS, RULES, README]),
-    "header_limit": ("netpbm/specs/Header.antt", [RULES]),
+    "header_limit": ("netpbm/specs/Header.antt", [CALLS, RULES, README]),
     "curve_length": ("curve_bytes/specs/CurveBytes.antt", [CALLS, RULES]),
 }
 

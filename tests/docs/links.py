@@ -23,9 +23,12 @@ PATH = re.compile(r"(?:\.?[\w+-]+/)+(?:[\w+.-]+)?|[\w-]+\.(?:md|txt|c|h|py|ppm|a
 NAME = re.compile(r"[A-Za-z][\w·'′₀-₉-]*(?:(?:::|\.)[A-Za-z_][\w'-]*)*")
 SOURCES = "crates", "include", "examples", "bench", "tests", "bin", "samples", ".ci"
 # what a reader makes: products, and the files of examples
-MADE = {"target", "out", "balanced.ppm"}
+MADE = {"target", "out", "balanced.ppm", "in.ppm", "out.ppm"}
 # words in backquotes that are no names of ours
-WORDS = {"P6", "refused", "rt", "ffmpeg", "ffprobe", "memcpy", "memset", "rattle_errno", "objdump", "ulimit", "rattle-kit-13f"}
+WORDS = {
+    "P6", "refused", "rt", "rattle-kit-13f", "memcpy", "memset", "rattle_errno", "objdump", "ulimit", "ffmpeg", "ffprobe", "convert",
+    "ppmtoppm", "ppmraw", "file-ppm-save",
+}
 
 
 def link_faults(path):

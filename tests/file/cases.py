@@ -75,13 +75,15 @@ def letters():
 
 
 def cuts():
-    """The reference file cut after each of its bytes but the last."""
-    file = HEADER + SAMPLES
-    for length in range(len(file)):
-        if length < len(HEADER):
-            yield refused(f"cut_after_{length:02}", "12: the header ends early", 12, file[:length])
-        else:
-            yield refused(f"cut_after_{length:02}", "15: fewer samples than the header says", 15, file[:length])
+    """The reference file, and the one with comments in its header, cut after each of their bytes but the last."""
+    for name, header, early in (
+        ("cut", HEADER, "12: the header ends early"),
+        ("comment_cut", COMMENTED_HEADER, "12: the header ends early, or a comment never does"),
+    ):
+        file = header + SAMPLES
+        for length in range(len(file)):
+            shows, number = (early, 12) if length < len(header) else ("15: fewer samples than the header says", 15)
+            yield refused(f"{name}_after_{length:02}", shows, number, file[:length])
 
 
 WHITE = {"space": b" ", "tab": b"\t", "lf": b"\n", "vt": b"\v", "ff": b"\f", "cr": b"\r"}
@@ -187,6 +189,7 @@ def comments():
         ("at_width", b"P6\n2#label\n1\n255\n"),
         ("at_height", b"P6\n2 1#label\n255\n"),
         ("at_each", b"P6#a\n2#b\n1#c\n255\n"),
+        ("at_many_places", COMMENTED_HEADER),
         ("before_a_number_directly", b"P6\n#\n2 #\n1 #\n255\n"),
         ("empty", b"P6\n#\n2 1\n255\n"),
         ("between_white_space", b"P6 \t# label\n \t2 1\n255\n"),
@@ -230,17 +233,6 @@ def comments():
     yield refused("comment_reaches_end_of_file", endless, 12, b"P6 2 1 #" + 60000 * b"x")
     after = "exactly one white-space byte follows the largest sample value; then the samples"
     yield refused("comment_after_last_white_space", f"{after}: # is one", 16, HEADER + b"# label\n" + SAMPLES)
-
-
-def comment_cuts():
-    """A file with comments cut after each of its bytes but the last."""
-    file = COMMENTED_HEADER + SAMPLES
-    for length in range(len(file)):
-        if length < len(COMMENTED_HEADER):
-            yield refused(f"comment_cut_after_{length:02}", "12: the header ends early, or a comment never does", 12, file[:length])
-        else:
-            yield refused(f"comment_cut_after_{length:02}", "15: fewer samples than the header says", 15, file[:length])
-    yield accepted("comment_not_cut", "the same file, whole", COMMENTED_HEADER)
 
 
 def largest_values():
@@ -474,8 +466,7 @@ PICTURES = {
 
 def table():
     groups = (
-        reference, letters, cuts, white_space, last_white_space, header_length, numbers, comments, comment_cuts, largest_values,
-        sizes,
+        reference, letters, cuts, white_space, last_white_space, header_length, numbers, comments, largest_values, sizes,
         after_the_samples, first_named, moves, pictures, large, tools,
     )
     cases = [case for group in groups for case in group()]

@@ -44,8 +44,13 @@ examples =
     -- LF ends one, and so does CR; after CR, LF is white space of its own
     ∷ (ascii "P6\n#a\r2 1\n255\n" reads sized 2 1 14)
     ∷ (ascii "P6\r\n#a\r\n2 1\n255\n" reads sized 2 1 16)
-    -- # within one, and a number, do not end it; and it splits the digits of a number
+    -- # within one does not end it, nor do a number, tab, VT and FF
     ∷ (ascii "P6\n#a #b# 3\n2 1\n255\n" reads sized 2 1 20)
+    ∷ (ascii "P6\n#a" ++ (9 ∷ 11 ∷ 12 ∷ []) ++ ascii "3\n2 1\n255\n" reads sized 2 1 18)
+    -- the bytes beside # begin none
+    ∷ (ascii "P6\n" ++ (34 ∷ []) ++ ascii "a\n2 1\n255\n" reads Malformed)
+    ∷ (ascii "P6\n" ++ (36 ∷ []) ++ ascii "a\n2 1\n255\n" reads Malformed)
+    -- digits with a comment between them are two numbers
     ∷ (ascii "P6\n1#x\n2 255\n" reads sized 1 2 13)
     -- a # that comes later is no comment: it is a sample
     ∷ (ascii "P6\n2 1\n255\n#\n" reads sized 2 1 11)

@@ -59,19 +59,21 @@ fn comment_at(bytes: &[u8], place: usize) -> bool
 }
 
 // The place of the byte that ends the comment at `place`: LF or CR, which is white space too. Where none does, the end of the bytes.
-fn line_end(bytes: &[u8], place: usize) -> usize
+fn comment_end(bytes: &[u8], place: usize) -> usize
     ensures { result ≡ place + run_length (in_class Comment) (drop place bytes.now) }
 {
     scanning::run_end(Class::Comment, bytes, place)
 }
 
-// The place after the white space that stands at `place`, comments included.
+// The place after the white space that stands at `place`, comments included. It goes on by runs: the byte that ends a comment is left for
+// the run of white-space bytes after it.
 fn white_end(bytes: &[u8], place: usize) -> usize
     ensures { result ≡ place + white_length false (drop place bytes.now) }
 {
     let mut end = scanning::run_end(Class::Space, bytes, place);
+    // not a `for`: how far a comment goes is not known beforehand
     while comment_at(bytes, end) {
-        end = scanning::run_end(Class::Space, bytes, line_end(bytes, end));
+        end = scanning::run_end(Class::Space, bytes, comment_end(bytes, end));
     }
     end
 }

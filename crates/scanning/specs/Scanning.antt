@@ -21,7 +21,7 @@ is_hex_digit b = is_digit b || is_letter_from (code "a") b || is_letter_from (co
 abbrev pub starts_comment : ℕ → Bool
 starts_comment b = eqb b (code "#")
 
--- A header's ends with its line: "from a # to the end of its line (LF or CR)" (document 02, wish 2).
+-- A header's comment ends with its line: "from a # to the end of its line (LF or CR)" (document 02, wish 2).
 abbrev pub ends_comment : ℕ → Bool
 ends_comment b = eqb b 10 || eqb b 13
 

@@ -48,8 +48,8 @@ abbrev pub pixels_of_file : List ℕ → List Written
 pixels_of_file file =
     pixels_written full (method_of file_method) (own_curve (file_samples file)) (file_samples file) (file_samples (answer file))
 
--- Claim: demand 2 for every pixel written for an accepted file: each sample is the exact value of the paper's formula, rounded once. Proved:
--- proofs/Agreement.antt, `files_round_the_paper`.
+-- Claim: demand 2 for every pixel written for an accepted file: each sample is the exact value of the paper's formula, rounded once.
+-- Proved: proofs/Agreement.antt, `files_round_the_paper`.
 abbrev pub FilesRoundThePaper : Type 0
 FilesRoundThePaper =
     (file : List ℕ) → Bytes file → IsAccepted file → (w : Written) → w among pixels_of_file file → BalanceRounded w

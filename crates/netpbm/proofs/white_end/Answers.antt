@@ -9,12 +9,12 @@ loop-end-init c = left_first _ _ _ c.run_end-end.ensures
 pub loop-end-smaller : goal.loop-end-smaller
 loop-end-smaller c =
     let hash = sym c.comment_at.ensures ∙ c.loop-end-test.true in
-    omega (arith, line_goes_on c.args.bytes.now _ _ hash c.line_end.ensures, comment_within c.args.bytes.now _ hash, c.run_end-end-in-loop-end.ensures)
+    omega (arith, line_goes_on c.args.bytes.now _ _ hash c.comment_end.ensures, comment_within c.args.bytes.now _ hash, c.run_end-end-in-loop-end.ensures)
 
 pub loop-end-preserved : goal.loop-end-preserved
 loop-end-preserved c =
     let hash = sym c.comment_at.ensures ∙ c.loop-end-test.true in
-    left_more _ _ _ hash c.line_end.ensures _ _ c.loop-end.invariant c.run_end-end-in-loop-end.ensures
+    left_more _ _ _ hash c.comment_end.ensures _ _ c.loop-end.invariant c.run_end-end-in-loop-end.ensures
 
 pub returns : goal.returns
 returns c = left_none _ _ _ c.loop-end.invariant (sym c.comment_at.ensures ∙ c.loop-end-test.false)

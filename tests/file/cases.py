@@ -17,7 +17,7 @@ from exact_file import answer
 BY_TOOLS = pathlib.Path(__file__).resolve().parent / "by_tools"
 SEED = 20170101
 # how many cases there are, and how many of them have the output by hand; so that none is lost unseen
-CASES, BY_HAND = 384, 357
+CASES, BY_HAND = 396, 369
 
 
 def digest(data):
@@ -127,10 +127,11 @@ def padded(place, length):
     return b"".join(words)
 
 
-def commented(place, length):
+def commented(place, length, letter="x", end=b"\n"):
     """The reference header with a comment after its place-th word, so that it has `length` bytes."""
     words = [b"P6", b"\n2", b" 1", b"\n255\n"]
-    words[place] += b"#" + b"x" * (length - len(HEADER) - 2) + b"\n"
+    room = length - len(HEADER) - 2
+    words[place] += b"#" + b"x" * (room % len(letter.encode())) + room // len(letter.encode()) * letter.encode() + end
     return b"".join(words)
 
 
@@ -141,6 +142,9 @@ def header_length():
             yield accepted(f"header_512_bytes{kind}_after_{name}", limit, filled(place, 512))
             for length in 513, 514:
                 yield refused(f"header_{length}_bytes{kind}_after_{name}", limit, 12, filled(place, length) + SAMPLES)
+    for name, letter, end in ("utf_8", "ö", b"\n"), ("cr", "x", b"\r"):
+        yield accepted(f"header_512_bytes_comment_{name}", limit, commented(1, 512, letter, end))
+        yield refused(f"header_513_bytes_comment_{name}", limit, 12, commented(1, 513, letter, end) + SAMPLES)
     for length in 64, 65, 255, 256, 511:
         yield accepted(f"header_{length}_bytes", limit, padded(0, length))
     yield accepted("header_512_bytes_five_digits", limit, b"P6" + 492 * b" " + b"00002 00001 00255\n")
@@ -206,12 +210,14 @@ def comments():
         ("with_nul", b"P6\n#\0\0\n2 1\n255\n"),
         ("in_utf_8", "P6\n# Szene 7, Größe übernommen\n2 1\n255\n".encode()),
         ("with_next_line", b"P6\n#\x853\n2 1\n255\n"),
-        ("with_each_byte", b"P6\n#" + bytes(b for b in range(256) if b not in b"\n\r") + b"\n2 1\n255\n"),
-        ("with_leading_zeros", b"P6\n# label\n00002 001\n0255\n"),
-        ("as_ppmhist_writes_it", b"P6 # color map\n2 1 255\n"),
+        ("with_tab_and_number", b"P6\n# a\t3\n2 1\n255\n"),
+        ("with_each_byte", b"P6\n#" + bytes(b for b in range(256) if b not in b"\n\r") + b"x\n2 1\n255\n"),
+        ("beside_five_digits", b"P6#a\n00002#b\n00001#c\n00255\n"),
+        ("on_the_line_of_the_letters", b"P6 # color map\n2 1 255\n"),
     ):
         yield accepted(f"comment_{name}", white, header)
-    yield accepted("comment_splits_digits", f"{white}: 1, a comment, 2 are two numbers", b"P6\n1#x\n2 255\n", by_hand=sized(1, 2) + BALANCED[-6:])
+    two = f"{white}: 1, a comment, 2 are two numbers"
+    yield accepted("comment_splits_digits", two, b"P6\n1#x\n2 255\n", by_hand=sized(1, 2) + BALANCED[-6:])
     first = "before the largest sample value: samples may begin with #"
     yield accepted("comment_and_first_samples_hash", first, b"P6\n# label\n2 1\n255\n", b"###" + SAMPLES[3:])
     for name, header in (
@@ -223,6 +229,11 @@ def comments():
         ("at_largest_and_space", b"P6\n2 1\n255#\n "),
         ("without_end", b"P6\n2 1 # label 255"),
         ("without_end_and_space", b"P6\n2 1 # label 255 "),
+        ("without_end_before_255", b"P6\n2 1 #255 "),
+        ("after_six_digits", b"P6#a\n000002#b\n1 255\n"),
+        ("before_six_digits", b"P6\n2#a\n000001 255\n"),
+        ("before_and_after_six_digits", b"P6 2#a\n000001#b\n255\n"),
+        ("before_six_digits_of_largest", b"P6 2 1#a\n000255\n"),
         ("ended_by_vt_or_ff_only", b"P6\n2 1 # label\v255 # label\f255 "),
     ):
         yield refused(f"comment_{name}", f"{white} wherever white space may stand before the largest sample value", 12, header + SAMPLES)
@@ -310,7 +321,9 @@ def first_named():
         ("13_16", 13, sized(2, 1, 254) + SAMPLES + b"\0"),
         ("13_16_two_bytes_a_sample", 13, sized(2, 1, 65535) + 2 * SAMPLES),
         ("13_14_16", 13, sized(0, 1, 254) + SAMPLES),
-        ("12_13_endless_comment", 12, b"P6\n2 1#\n254#" + SAMPLES),
+        ("12_13_hash", 12, b"P6\n2 1#\n254#" + SAMPLES),
+        ("12_14_endless_comment", 12, b"P6\n0 1 # label"),
+        ("12_14_endless_comment_too_large", 12, b"P6\n99999 99999 # label 255 "),
         ("13_comment", 13, b"P6\n2 1\n#255\n254\n" + SAMPLES),
         ("14_comment", 14, b"P6\n0#2\n1\n255\n" + SAMPLES),
         ("14_15", 14, sized(16385, 1) + SAMPLES),
@@ -388,7 +401,8 @@ def large():
 
     longest = b"P6#" + 496 * b"x" + b"\n128 128\n255\n"
     yield accepted("longest", "the longest input that is taken, 49,664 bytes", longest, full, None)
-    yield accepted("longest_of_spaces", "the same with white space in place of the comment", b"P6" + 498 * b" " + b"128 128\n255\n", full, None)
+    spaces = b"P6" + 498 * b" " + b"128 128\n255\n"
+    yield accepted("longest_of_spaces", "the same with white space in place of the comment", spaces, full, None)
     yield refused("longest_less_one_byte", "15: fewer samples than the header says", 15, longest + full[:-1])
     for more in 1, 2, 3, 100_000:
         yield refused(f"longest_and_{more}", "16: bytes after the samples", 16, longest + full + bytes(more))

@@ -61,10 +61,10 @@ extern "C" {
 #endif
 
 /*
- * The version. MAJOR goes up where a call gives another result for the same input, or where a program has to be changed; MINOR where
- * something is added; PATCH where neither, as for speed or words. CHANGES.md in the sources says which results change. A program that
- * depends on exact bytes can test it: #if CUBE_BALANCE_VERSION_MAJOR != 2. No call hands a version back, so keep this header with the
- * library that bin/library built beside it.
+ * The version. MAJOR goes up where a call gives another result for an input that was accepted, or where a program has to be changed;
+ * MINOR where something is added, as inputs that are no longer refused; PATCH where neither, as for speed or words. CHANGES.md in the
+ * sources says which results change. A program that depends on exact bytes can test it: #if CUBE_BALANCE_VERSION_MAJOR != 2. No call
+ * hands a version back, so keep this header with the library that bin/library built beside it.
  */
 #define CUBE_BALANCE_VERSION_MAJOR 2
 #define CUBE_BALANCE_VERSION_MINOR 1

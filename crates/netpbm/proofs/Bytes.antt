@@ -6,7 +6,7 @@ use Rattle.std.specs.Option.{option_eq}
 use denote.Bor.{Bor}
 use borrow.Author.Tests.{ne_eqb}
 use lib.Dec.{eqb}
-use mathlib.Core.Path.{◌≡◌, sym, ap, ◌∙◌}
+use mathlib.Core.Path.{◌≡◌, refl, sym, ap, ◌∙◌}
 use mathlib.Core.Bool.{Bool, true, false, false≢true}
 use mathlib.Core.List.{List}
 use Prim.Native.Nat.{ℕ, ◌≤◌, ◌<◌}
@@ -34,12 +34,16 @@ digit_no_comment b digit =
     let least : zero_code ≤ b = (digit_range b digit).0 in
     ne_eqb b 35 (λ e. omega arith)
 
--- past the end stands 0, which is no white space
-pub space_within : (bytes : List ℕ) (place : ℕ) → is_space (at bytes place) ≡ true → place < length bytes
-space_within bytes place space =
+-- past the end stands 0: what passes a test that 0 does not pass lies within the bytes
+pub byte_within : (test : ℕ → Bool) → test 0 ≡ false → (bytes : List ℕ) (place : ℕ) → test (at bytes place) ≡ true → place < length bytes
+byte_within test none bytes place passes =
     either (length bytes) place
-    (λ past. absurd (false≢true (ap is_space (sym (get_or-eq_default bytes 0 past)) ∙ space)))
+    (λ past. absurd (false≢true (sym none ∙ ap test (sym (get_or-eq_default bytes 0 past)) ∙ passes)))
     (λ less. less)
+
+-- as white space does
+pub space_within : (bytes : List ℕ) (place : ℕ) → is_space (at bytes place) ≡ true → place < length bytes
+space_within = byte_within is_space refl
 
 -- what a test of the byte at a place tells, if none stands there
 pub last_is : (bytes : List ℕ) (place : ℕ) (byte : Option (Bor ℕ)) (space : Bool) → IsItemAt bytes place byte

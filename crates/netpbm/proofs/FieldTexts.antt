@@ -97,11 +97,8 @@ module _ (bytes front : List ℕ) (begins : bytes ≡ front ++ drop (length fron
   abbrev gap_here : List ℕ
   gap_here = gap_at bytes place
 
-  length_here : length gap_here ≡ white_at bytes place
-  length_here = length_gap bytes place
-
   end_is : end_at bytes place ≡ length (front ++ gap_here ++ numeral_at bytes place)
-  end_is = field_end bytes front gap_here (numeral_at bytes place) (sym length_here) (sym (length_numeral bytes place))
+  end_is = field_end bytes front gap_here (numeral_at bytes place) (sym (length_gap bytes place)) (sym (length_numeral bytes place))
 
   field_split : bytes ≡ front ++ gap_here ++ numeral_at bytes place ++ drop (length (front ++ gap_here ++ numeral_at bytes place)) bytes
   field_split =

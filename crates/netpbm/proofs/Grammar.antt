@@ -162,6 +162,7 @@ sound file not_malformed =
           ∙ append_assoc (text_of header.parts) header.samples rest;
     }
 
+-- parts, one by one
 abbrev parts : (before_width width before_height height before_largest largest : List ℕ) → ℕ → Parts
 parts before_width width before_height height before_largest largest last = record {
   before_width = before_width;

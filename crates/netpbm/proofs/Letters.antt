@@ -3,11 +3,10 @@ use Rattle.std.proofs.Common.{◌≡◌, true, List, [], ◌∷◌, ℕ, ◌≤�
 use Rattle.std.specs.List.{starts_with}
 use Rattle.std.proofs.lemmas.Bool.Decides.{nat_tests}
 use borrow.Author.Tests.{eqb-true}
-use lib.ListN.{get_or-eq_default}
 use Rattle.tables.specs.Table.{at}
 use Rattle.std.proofs.lemmas.Bool.{and_parts}
-use Rattle.tables.proofs.Cases.{either}
 use Rattle.netpbm.specs.Header.{has_letters}
+use Rattle.netpbm.proofs.Bytes.{byte_within}
 
 -- what is looked for at the start is found where they stand
 pub letters_start : (bytes : List ℕ) → starts_with eqb bytes (80 ∷ 54 ∷ []) ≡ has_letters bytes
@@ -18,9 +17,7 @@ letters_start (a ∷ b ∷ bytes) = grind (arith, nat_tests)
 -- they are two bytes
 letters_within : (bytes : List ℕ) → has_letters bytes ≡ true → 2 ≤ length bytes
 letters_within bytes h =
-    either (length bytes) 1
-    (λ short. absurd (omega (arith, get_or-eq_default bytes 0 short, eqb-true (at bytes 1) 54 (and_parts (eqb (at bytes 0) 80) (eqb (at bytes 1) 54) h).1)))
-    (λ long. long)
+    byte_within (λ b. eqb b 54) refl bytes 1 (and_parts (eqb (at bytes 0) 80) (eqb (at bytes 1) 54) h).1
 
 -- what follows them
 pub letters_split : (bytes : List ℕ) → has_letters bytes ≡ true → bytes ≡ 80 ∷ 54 ∷ drop 2 bytes

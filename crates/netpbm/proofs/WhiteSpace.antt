@@ -4,10 +4,8 @@ use Rattle.std.proofs.lemmas.Bool.Decides.{nat_tests}
 use mathlib.Core.Bool.{false≢true}
 use borrow.Author.Tests.{eqb-true}
 use borrow.Table.Steps.{cases}
-use lib.ListN.{get_or-eq_default}
 use lib.Seq.{drop-drop, get_or-drop}
 use Rattle.tables.specs.Table.{at}
-use Rattle.tables.proofs.Cases.{either}
 use Rattle.scanning.specs.Scanning.{is_space, starts_comment, ends_comment, in_class, run_length}
 use Rattle.scanning.specs.declared.Class.TheVariants.{Comment as CommentByte}
 use Rattle.scanning.proofs.Runs.{run_stops}
@@ -21,7 +19,7 @@ end_is_space b ends = grind (arith, nat_tests)
 pub comment_no_space : (b : ℕ) → starts_comment b ≡ true → is_space b ≡ false
 comment_no_space b starts = rw (eqb-true b 35 starts) refl
 
-pub comment_goes_on : (b : ℕ) → starts_comment b ≡ true → ends_comment b ≡ false
+comment_goes_on : (b : ℕ) → starts_comment b ≡ true → ends_comment b ≡ false
 comment_goes_on b starts = rw (eqb-true b 35 starts) refl
 
 -- white space lies within the bytes
@@ -79,13 +77,6 @@ left_first bytes place end is =
 -- what stands first after a place is what stands there
 first_at_place : (bytes : List ℕ) (place : ℕ) → at (drop place bytes) 0 ≡ at bytes place
 first_at_place bytes place = get_or-drop place bytes 0 0 ∙ ap (λ (i : ℕ). at bytes i) (omega arith)
-
--- a comment lies within the bytes
-pub comment_within : (bytes : List ℕ) (place : ℕ) → starts_comment (at bytes place) ≡ true → place < length bytes
-comment_within bytes place hash =
-    either (length bytes) place
-    (λ past. absurd (omega (arith, eqb-true (at bytes place) 35 hash, get_or-eq_default bytes 0 past)))
-    (λ less. less)
 
 -- A comment, and the end of its line.
 module _ (bytes : List ℕ) (end line_end : ℕ) (hash : starts_comment (at bytes end) ≡ true)

@@ -9,7 +9,7 @@ use Rattle.still.specs.Still.{answer, output_limit, IsAccepted}
 abbrev pub input_limit : ℕ
 input_limit = header_limit + 3 * area_limit + 1
 
--- An accepted file of the largest size: a comment fills its header.
+-- An accepted file of the largest size: a comment fills its header, beside whose text sixteen bytes are due.
 unfoldable pub largest_file : List ℕ
 largest_file =
     ascii "P6#" ++ replicate (header_limit - 16) (code "x") ++ ascii "\n128 128\n255\n" ++ replicate (3 * area_limit) 0

@@ -1,4 +1,4 @@
--- Document 01's entries are those of source 004, equations 5 and 14.
+-- The entries are those of source 004, equations 5 and 14, by the house share.
 use mathlib.Core.Path.{◌≡◌, sym, ap, ap₂, subst, ◌∙◌}
 use Prim.Native.Nat.{ℕ, ◌+◌, ◌-◌, ◌*◌, ◌≤◌, ◌<◌}
 use native.Mathlib.Nat.{mul_assoc, mul_comm, mul_left_comm, one-mul, mul-sub, mul-add, add-mul, mul-pos, mul-le-mul_right, mul-lt-mul_of_pos_right, le_of_mul-le-mul_left, lt_of_mul-lt-mul_left, le_of_lt, le_trans}
@@ -8,9 +8,9 @@ use Rattle.rounding.specs.Fraction.{Fraction, whole, ◌over◌, ◌⊗◌, ◌�
 use Rattle.targets.specs.Cube.{G, cubed}
 use Rattle.targets.specs.Paper.{area}
 use Rattle.targets.proofs.Laws.{targets_are_right}
-use Rattle.curve.specs.Curve.{share_count, full_count, cube_entry, equalised_entry, by_choice, entry}
+use Rattle.curve.specs.Curve.{share_count, full_count, previous, cube_entry, equalised_entry, by_choice, entry}
 use Rattle.curve.specs.Nearest.{distance}
-use Rattle.curve.specs.Paper.{apart, equation5, equation14, EntriesAreThePapers}
+use Rattle.curve.specs.Paper.{mean_count, apart, equation5, equation14, EntriesAreThePapers}
 use Rattle.curve.specs.declared.Choice.{Choice}
 use Rattle.curve.specs.declared.Choice.TheVariants.{Cube, Equalised}
 use Rattle.curve.proofs.Curve.{cube_nearest, ends_inner}
@@ -79,52 +79,66 @@ n_times {c} {x} {v} n p =
           ∙ ap (λ (m : ℕ). n * v * m) (sym (one-mul x.den));
     }
 
+-- twice c times a fraction
+twice : {c : ℕ} {x : Fraction} {v : ℕ} → Times c x v → Times (2 * c) x (2 * v)
+twice {c} {x} {v} p =
+    record {
+      positive = p.positive;
+      same = mul_assoc 2 c x.num ∙ ap (λ (m : ℕ). 2 * m) p.same ∙ sym (mul_assoc 2 v x.den);
+    }
+
 -- equation 11 at the intensity k / 255, times 255³
 area_times : (k : ℕ) → k ≤ 765 → Times (cubed 255) (area (k over 255)) (G k)
 area_times k h =
     let (positive, _, same) = targets_are_right.equation11 k h in
     record { positive = omega arith; same = omega arith }
 
--- and at the intensity 3
-top_times : (h : ℕ) → Times (cubed 255) (area (whole 3) ⊗ whole h) (G 765 * h)
+-- and at the intensity 3, times h halves
+top_times : (h : ℕ) → Times (2 * cubed 255) (area (whole 3) ⊗ (h over 2)) (G 765 * h)
 unfolding area
 top_times h = record { positive = omega arith; same = rw targets_are_right.at765 (omega arith) }
 
--- equation 14, times 255³, is the distance of document 01
-equation14_times : (n h k : ℕ) → k ≤ 765 → Times (cubed 255) (equation14 n h k) (distance (n * G k) (G 765 * h))
-equation14_times n h k le = apart_times (n_times n (area_times k le)) (top_times h)
+-- equation 14, times 2 × 255³, is the distance of document 01, with 2 × N in place of N
+equation14_times : (n h k : ℕ) → k ≤ 765 → Times (2 * cubed 255) (equation14 n (h over 2) k) (distance (2 * n * G k) (G 765 * h))
+equation14_times n h k le =
+    subst (λ (m : ℕ). Times (2 * cubed 255) (equation14 n (h over 2) k) (distance m (G 765 * h)))
+    (mul_left_comm n 2 (G k) ∙ sym (mul_assoc 2 n (G k)))
+    (apart_times (n_times n (twice (area_times k le))) (top_times h))
 
--- between the ends the entry for s is made from N and H(s)
-entry_is : (choice : Choice) (N : ℕ) (H : ℕ → ℕ) (s : ℕ) → 0 < s → s < 765 → by_choice choice N (H s) ≡ entry choice N H s
+-- between the ends the entry for s is made from 2 × N and H(s) + H(s − 1)
+entry_is : (choice : Choice) (N : ℕ) (H : ℕ → ℕ) (s : ℕ) → 0 < s → s < 765
+    → by_choice choice (2 * N) (H s + previous H s) ≡ entry choice N H s
 unfolding entry share_count full_count
-entry_is choice N H s h l = sym (ends_inner (λ s. by_choice choice N (H s)) s h l)
+entry_is choice N H s h l = sym (ends_inner (λ s. by_choice choice (2 * N) (H s + previous H s)) s h l)
 
--- equation 5 is document 01's fraction
-equalised_is : (n h : ℕ) → equalised_entry n h ≡ nearest (equation5 n h)
+-- equation 5 is document 01's fraction, of the house share
+equalised_is : (n h : ℕ) → equalised_entry (2 * n) h ≡ nearest (equation5 n (h over 2))
 unfolding equalised_entry
 equalised_is n h = ap₂ near (omega arith) (omega arith)
 
 -- the cube entry's distance is least
-cube_least : (n h j : ℕ) → j ≤ 765 → equation14 n h (cube_entry n h) ≼ equation14 n h j
+cube_least : (n h j : ℕ) → j ≤ 765 → equation14 n (h over 2) (cube_entry (2 * n) h) ≼ equation14 n (h over 2) j
 cube_least n h j l =
-    order_kept (equation14_times n h (cube_entry n h) (cube_nearest n h).within) (equation14_times n h j l) (omega arith)
-    ((cube_nearest n h).least j l)
+    order_kept (equation14_times n h (cube_entry (2 * n) h) (cube_nearest (2 * n) h).within) (equation14_times n h j l)
+    (omega arith) ((cube_nearest (2 * n) h).least j l)
 
 -- and that of every smaller k is larger
-cube_first : (n h j : ℕ) → j < cube_entry n h → equation14 n h (cube_entry n h) ≺ equation14 n h j
+cube_first : (n h j : ℕ) → j < cube_entry (2 * n) h → equation14 n (h over 2) (cube_entry (2 * n) h) ≺ equation14 n (h over 2) j
 cube_first n h j l =
-    strictly_kept (equation14_times n h (cube_entry n h) (cube_nearest n h).within)
-    (equation14_times n h j (le_trans (le_of_lt l) (cube_nearest n h).within)) ((cube_nearest n h).first j l)
+    strictly_kept (equation14_times n h (cube_entry (2 * n) h) (cube_nearest (2 * n) h).within)
+    (equation14_times n h j (le_trans (le_of_lt l) (cube_nearest (2 * n) h).within)) ((cube_nearest (2 * n) h).first j l)
 
 pub entries_are_the_papers : EntriesAreThePapers
 entries_are_the_papers =
     record {
-      equalised = λ N H s some h l. sym (entry_is Equalised N H s h l) ∙ equalised_is N (H s);
-      within = λ N H s h l. subst (λ (k : ℕ). k ≤ 765) (entry_is Cube N H s h l) (cube_nearest N (H s)).within;
+      share = λ N H s some. omega arith;
+      equalised = λ N H s some h l. sym (entry_is Equalised N H s h l) ∙ equalised_is N (H s + previous H s);
+      within = λ N H s h l.
+          subst (λ (k : ℕ). k ≤ 765) (entry_is Cube N H s h l) (cube_nearest (2 * N) (H s + previous H s)).within;
       least = λ N H s h l.
-          subst (λ (k : ℕ). (j : ℕ) → j ≤ 765 → equation14 N (H s) k ≼ equation14 N (H s) j) (entry_is Cube N H s h l)
-          (cube_least N (H s));
+          subst (λ (k : ℕ). (j : ℕ) → j ≤ 765 → equation14 N (mean_count H s) k ≼ equation14 N (mean_count H s) j)
+          (entry_is Cube N H s h l) (cube_least N (H s + previous H s));
       first = λ N H s h l.
-          subst (λ (k : ℕ). (j : ℕ) → j < k → equation14 N (H s) k ≺ equation14 N (H s) j) (entry_is Cube N H s h l)
-          (cube_first N (H s));
+          subst (λ (k : ℕ). (j : ℕ) → j < k → equation14 N (mean_count H s) k ≺ equation14 N (mean_count H s) j)
+          (entry_is Cube N H s h l) (cube_first N (H s + previous H s));
     }

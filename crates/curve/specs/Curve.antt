@@ -1,5 +1,5 @@
 -- The tone curve of a shot (document 01, "Fixing the curve"): N is its number of pixels, and H(s) of them have an intensity of at most s.
-use Rattle.std.specs.Prelude.{◌≡◌, cond, List, ℕ, zero, suc, ◌*◌, ◌≤◌, ◌<◌, eqb, length}
+use Rattle.std.specs.Prelude.{◌≡◌, cond, List, ℕ, zero, suc, ◌+◌, ◌*◌, ◌≤◌, ◌<◌, eqb, length}
 use Rattle.rounding.specs.Near.{near}
 use Rattle.tables.specs.Table.{tabulate, at}
 use Rattle.targets.specs.Cube.{G}
@@ -9,15 +9,16 @@ use Rattle.curve.specs.Nearest.{nearest_place}
 use Rattle.curve.specs.declared.Choice.{Choice}
 use Rattle.curve.specs.declared.Choice.TheVariants.{Cube, Equalised}
 
--- The share of the pixels that the entry for an intensity s is made from is H(s) / N, as two counts: `share_count below upto` over
--- `full_count N`, where `below` pixels have a smaller intensity and `upto` have one of at most s. Two kinds of claims lean on what these
--- counts are: that the entries are the paper's (specs/Paper.antt), and figures computed from curves.
+-- The share of the pixels that the entry for an intensity s is made from: "wherever the curves used H(s) / N they now use (H(s) +
+-- H(s − 1)) / (2 × N)" (document 02, wish 3), so an intensity counts half of its own pixels as below it. It is two counts,
+-- `share_count below upto` over `full_count N`, where `below` pixels have a smaller intensity and `upto` have one of at most s. Source 004
+-- has H(s) / N; specs/Paper.antt says what that leaves of its equations.
 unfoldable pub share_count : ℕ → ℕ → ℕ
-share_count below upto = upto
+share_count below upto = upto + below
 
 -- What all N pixels count.
 unfoldable pub full_count : ℕ → ℕ
-full_count N = N
+full_count N = 2 * N
 
 -- H(s − 1), with H(−1) = 0.
 abbrev pub previous : (ℕ → ℕ) → ℕ → ℕ
@@ -28,12 +29,12 @@ previous H (suc s) = H s
 abbrev pub share_at : (ℕ → ℕ) → ℕ → ℕ
 share_at H s = share_count (previous H s) (H s)
 
--- Choice 1, cube (equation 14): the k where the distance between N × G(k) and G(765) × H(s) is least. Of two equal distances the
--- smaller k wins.
+-- Choice 1, cube (equation 14 with that share), of a share of h in n: the k where the distance between n × G(k) and G(765) × h is least.
+-- Of two equal distances the smaller k wins.
 unfoldable pub cube_entry : ℕ → ℕ → ℕ
 cube_entry n h = nearest_place (λ k. n * G k) 765 (G 765 * h)
 
--- Choice 2, equalised (equation 5): 765 × H(s) / N to the nearest whole number, halves up.
+-- Choice 2, equalised (equation 5 with that share): 765 × h / n to the nearest whole number, halves up.
 unfoldable pub equalised_entry : ℕ → ℕ → ℕ
 equalised_entry n h = near (765 * h) n
 

@@ -13,7 +13,7 @@ ghost use Rattle.curve.specs.Nearest.{nearest_place};
 use refusal::Refusal;
 use std::array;
 
-// The curve choices: the cube's (equation 14 of source 004) and the equalised one (equation 5).
+// The curve choices: the cube's (equation 14 of source 004) and the equalised one (equation 5), both by the house share.
 #[derive(Clone, Copy, Debug, PartialEq, Eq)]
 pub enum Choice {
     Cube,
@@ -114,23 +114,23 @@ fn scaled_by(w: u64, targets: [u64; 766]) -> [u64; 766]
     array::from_fn(|k| w * targets[k])
 }
 
-// H(s), from H(s − 1) = `below` and H(s) = `upto`: what an entry counts of the pixels, behind a name of its own (`share_count`). 766 counts
-// of 32 bits stay below 2^42.
+// What an entry counts of the pixels, from H(s − 1) = `below` and H(s) = `upto`: those below its intensity twice, those of it once. 766
+// counts of 32 bits stay below 2^42.
 #[tactic(auto, unfolding(crate::specs::Curve::share_count))]
 fn share_count(below: u64, upto: u64) -> u64
     requires { (below ≤ 2 ^ 42) × (upto ≤ 2 ^ 42) }
     ensures { result ≡ share_count below upto }
 {
-    upto
+    upto + below
 }
 
-// N, behind a name of its own too (`full_count`).
+// What all pixels count: each twice.
 #[tactic(auto, unfolding(crate::specs::Curve::full_count))]
 fn full_count(pixels: u32) -> u64
     requires { pixels ≤ 2 ^ 31 }
     ensures { result ≡ full_count pixels }
 {
-    u64::from(pixels)
+    2 * u64::from(pixels)
 }
 
 // The share count of each intensity, from the cumulative counts. (A loop, since a sum goes on from count to count.)
@@ -184,7 +184,7 @@ pub fn tone_curve(choice: Choice, pixels: u32, counts: &[u32; 766]) -> [u16; 766
     let full = full_count(pixels);
     let shares = shares_of(counts);
     match choice {
-        // N × G(k) nearest to G(765) × H(s)
+        // 2 × N × G(k) nearest to G(765) × (H(s) + H(s − 1))
         Choice::Cube => {
             let cube = targets::table();
             let scaled = scaled_by(full, cube);

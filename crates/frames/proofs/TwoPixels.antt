@@ -1,8 +1,8 @@
 -- The curves of one pixel of intensity 300 and one of 600, by both choices.
 use mathlib.Core.Path.{◌≡◌, refl, sym, ap, ◌∙◌}
-use mathlib.Core.Bool.{cond}
+use mathlib.Core.Bool.{Bool, true, false, cond}
 use mathlib.Core.List.{List, [], ◌∷◌, map}
-use Prim.Native.Nat.{ℕ, zero, suc, ◌+◌, ◌≤◌}
+use Prim.Native.Nat.{ℕ, zero, suc, ◌+◌, ◌≤◌, zero-le}
 use native.Mathlib.Omega.{arith}
 use lib.Dec.{leb}
 use lib.ListN.{length, length-map}
@@ -12,35 +12,41 @@ use Rattle.tables.proofs.Laws.{tabulate_same}
 use Rattle.targets.specs.Cube.{G}
 use Rattle.pixel.specs.Move.{intensity}
 use Rattle.pixel.specs.declared.Pixel.{Pixel}
-use Rattle.curve.specs.Curve.{share_count, full_count, cube_entry, equalised_entry, by_choice, with_ends, entry, tone_curve}
+use Rattle.curve.specs.Curve.{share_count, full_count, previous, cube_entry, equalised_entry, by_choice, with_ends, entry, tone_curve}
 use Rattle.curve.specs.Nearest.{nearer, nearest_place}
 use Rattle.curve.specs.declared.Choice.{Choice}
 use Rattle.curve.specs.declared.Choice.TheVariants.{Cube, Equalised}
+use Rattle.curve.proofs.Curve.{tone_curve_same}
 use Rattle.measuring.specs.Histogram.{count_up_to}
-use Rattle.measuring.proofs.Counts.{count_le}
-use Rattle.frames.specs.Starred.{three_levels}
+use Rattle.frames.specs.Starred.{five_levels}
 
--- the entry for a share of one pixel in two
-abbrev middle : Choice → ℕ
-middle Cube = 382
-middle Equalised = 383
+-- the entry for a share of h in four, where a, b and c are those for one, two and three
+abbrev level : (a b c : ℕ) → ℕ → ℕ
+level a b c zero = 0
+level a b c (suc zero) = a
+level a b c (suc (suc zero)) = b
+level a b c (suc (suc (suc zero))) = c
+level a b c (suc (suc (suc (suc h)))) = 765
 
--- the entry for a share of h in two, where e is that for one
-abbrev level : ℕ → ℕ → ℕ
-level e zero = 0
-level e (suc zero) = e
-level e (suc (suc h)) = 765
+-- by each choice
+abbrev level_by : Choice → ℕ → ℕ
+level_by Cube = level 293 382 472
+level_by Equalised = level 191 383 574
 
--- by each choice, that is the entry
-level_is : (choice : Choice) (h : ℕ) → h ≤ 2 → by_choice choice 2 h ≡ level (middle choice) h
+-- that is the entry
+level_is : (choice : Choice) (h : ℕ) → h ≤ 4 → by_choice choice 4 h ≡ level_by choice h
 unfolding cube_entry nearest_place nearer G equalised_entry near
 level_is Cube zero l = refl
 level_is Cube (suc zero) l = refl
 level_is Cube (suc (suc zero)) l = refl
+level_is Cube (suc (suc (suc zero))) l = refl
+level_is Cube (suc (suc (suc (suc zero)))) l = refl
 level_is Equalised zero l = refl
 level_is Equalised (suc zero) l = refl
 level_is Equalised (suc (suc zero)) l = refl
-level_is choice (suc (suc (suc h))) l = absurd (omega arith)
+level_is Equalised (suc (suc (suc zero))) l = refl
+level_is Equalised (suc (suc (suc (suc zero)))) l = refl
+level_is choice (suc (suc (suc (suc (suc h))))) l = absurd (omega arith)
 
 -- how many of some intensities are at most s
 abbrev up_to : List ℕ → ℕ → ℕ
@@ -52,26 +58,56 @@ count_reads : (ps : List Pixel) (s : ℕ) → count_up_to ps s ≡ up_to (map in
 count_reads [] s = refl
 count_reads (p ∷ ps) s = ap (λ (n : ℕ). cond (leb (intensity p) s) 1 0 + n) (count_reads ps s)
 
--- these entries, one for each intensity, are the three levels
+-- one intensity counts once at most
+one_at_most : (b : Bool) → cond b 1 0 ≤ 1
+one_at_most true = omega arith
+one_at_most false = omega arith
+
+-- so two count twice
+two_at_most : (i j s : ℕ) → up_to (i ∷ j ∷ []) s ≤ 2
+two_at_most i j s = omega (arith, one_at_most (leb i s), one_at_most (leb j s))
+
+-- and those before an intensity do too
+two_before : (i j s : ℕ) → previous (up_to (i ∷ j ∷ [])) s ≤ 2
+two_before i j zero = zero-le
+two_before i j (suc s) = two_at_most i j s
+
+-- what these intensities count for s, half of its own
+abbrev counted : List ℕ → ℕ → ℕ
+counted intensities s = up_to intensities s + previous (up_to intensities) s
+
+-- the entries, one for each intensity, are the five levels
 abbrev AreLevels : List ℕ → Type 0
-AreLevels intensities = (e : ℕ) → tabulate (with_ends (λ s. level e (up_to intensities s))) 766 ≡ three_levels e
+AreLevels intensities = (a b c : ℕ) → tabulate (with_ends (λ s. level a b c (counted intensities s))) 766 ≡ five_levels a b c
 
 pub rising_levels : AreLevels (300 ∷ 600 ∷ [])
-unfolding tabulate with_ends three_levels
-rising_levels e = refl
+unfolding tabulate with_ends five_levels
+rising_levels a b c = refl
 
 pub falling_levels : AreLevels (600 ∷ 300 ∷ [])
-unfolding tabulate with_ends three_levels
-falling_levels e = refl
+unfolding tabulate with_ends five_levels
+falling_levels a b c = refl
+
+-- the entries by each choice
+abbrev levels_by : Choice → List ℕ
+levels_by Cube = five_levels 293 382 472
+levels_by Equalised = five_levels 191 383 574
+
+are_levels_by : (choice : Choice) (intensities : List ℕ) → AreLevels intensities
+    → tabulate (with_ends (λ s. level_by choice (counted intensities s))) 766 ≡ levels_by choice
+are_levels_by Cube intensities levels = levels 293 382 472
+are_levels_by Equalised intensities levels = levels 191 383 574
 
 -- the curve, by each choice
 pub two_pixel_curve : (choice : Choice) (i j : ℕ) → AreLevels (i ∷ j ∷ []) → (ps : List Pixel) → map intensity ps ≡ i ∷ j ∷ []
-    → tone_curve choice (length ps) (count_up_to ps) ≡ three_levels (middle choice)
+    → tone_curve choice (length ps) (count_up_to ps) ≡ levels_by choice
 unfolding tone_curve entry with_ends share_count full_count
 two_pixel_curve choice i j levels ps same =
+    let both = i ∷ j ∷ [] in
     let two : length ps ≡ 2 = sym (length-map ps intensity) ∙ ap length same in
-    let counts : (s : ℕ) → count_up_to ps s ≡ up_to (i ∷ j ∷ []) s = λ s. count_reads ps s ∙ ap (λ (l : List ℕ). up_to l s) same in
     rw two
-    (tabulate_same (entry choice 2 (count_up_to ps)) (with_ends (λ s. level (middle choice) (up_to (i ∷ j ∷ []) s))) 766
-    (λ s _. rw (level_is choice (count_up_to ps s) (omega (arith, count_le (λ i. leb i s) ps)), counts s))
-    ∙ levels (middle choice))
+    (tone_curve_same choice 2 (count_up_to ps) (up_to both)
+    (λ s _. count_reads ps s ∙ ap (λ (l : List ℕ). up_to l s) same)
+    ∙ tabulate_same (entry choice 2 (up_to both)) (with_ends (λ s. level_by choice (counted both s))) 766
+    (λ s _. rw (level_is choice (counted both s) (omega (arith, two_at_most i j s, two_before i j s))))
+    ∙ are_levels_by choice both levels)

@@ -1,4 +1,4 @@
--- Document 01, "Reference frames": the starred ones, as one table with one claim.
+-- Document 01, "Reference frames": the starred ones, as one table with one claim; the curves are those of document 02, wish 3.
 use Rattle.std.specs.Prelude.{◌≡◌, List, [], ◌∷◌, ◌++◌, map, ℕ, length, replicate}
 use Rattle.pixel.specs.Move.{intensity, moved}
 use Rattle.pixel.specs.declared.Pixel.{Pixel}
@@ -32,9 +32,9 @@ AllHold (x ∷ xs) = Holds x × AllHold xs
 abbrev pub rgb : ℕ → ℕ → ℕ → Pixel
 rgb r g b = record { r = r; g = g; b = b }
 
--- The entries of a curve that is 0 up to 299, e for 300 to 599, and 765 from 600.
-unfoldable pub three_levels : ℕ → List ℕ
-three_levels e = replicate 300 0 ++ replicate 300 e ++ replicate 166 765
+-- The entries of a curve that is 0 up to 299, a at 300, b from 301 to 599, c at 600, and 765 from 601.
+unfoldable pub five_levels : (a b c : ℕ) → List ℕ
+five_levels a b c = replicate 300 0 ++ (a ∷ replicate 299 b) ++ (c ∷ replicate 165 765)
 
 -- The table.
 unfoldable pub starred : List Frame
@@ -64,12 +64,12 @@ starred =
     ∷ has_intensity (rgb 255 255 1) 511
     ∷ move YangLee (rgb 255 255 1) 255 (rgb 128 128 0)
     ∷ move NaikMurthy (rgb 255 255 1) 255 (rgb 127 127 0)
-    -- One pixel of sum 300 and one of 600, in either order: the cube curve is 0 up to 299, 382 for 300 to 599, 765 from 600;
-    -- equalised, 383 in place of 382.
-    ∷ curve Cube (300 ∷ 600 ∷ []) (three_levels 382)
-    ∷ curve Cube (600 ∷ 300 ∷ []) (three_levels 382)
-    ∷ curve Equalised (300 ∷ 600 ∷ []) (three_levels 383)
-    ∷ curve Equalised (600 ∷ 300 ∷ []) (three_levels 383)
+    -- One pixel of sum 300 and one of 600, in either order, by document 02, wish 3: the cube curve is 0 up to 299, 293 at 300, 382 from
+    -- 301 to 599, 472 at 600, 765 from 601; equalised, 191, 383 and 574 in place of 293, 382 and 472.
+    ∷ curve Cube (300 ∷ 600 ∷ []) (five_levels 293 382 472)
+    ∷ curve Cube (600 ∷ 300 ∷ []) (five_levels 293 382 472)
+    ∷ curve Equalised (300 ∷ 600 ∷ []) (five_levels 191 383 574)
+    ∷ curve Equalised (600 ∷ 300 ∷ []) (five_levels 191 383 574)
     ∷ []
 
 -- Claim: every starred frame holds. Proved: proofs/Starred.antt, `starred_frames_hold`.

@@ -98,8 +98,9 @@ fn tones_of(strip: &[u8]) -> Tones
 
 // A shot of three pixels of intensity 300, fixed by a choice, colours a pixel of each intensity by method 1 at the full balance. As
 // they are filled, those of intensity 1 to 510 come out black for entry 0 only, and those of intensity 255 to 764 white for entry 765
-// only: so the strip shows the curve, but for its ends, since black and white stay. A pixel's place in the strip is its intensity, so
-// the pixels before the first white one give the intensity from which on they are white. All of it stands on a line of its own.
+// only: so the strip shows where the curve, but for its ends, is 0 and where it is 765. A pixel's place in the strip is its intensity,
+// so the pixels before the first white one give the intensity from which on they are white, and the pixel at 300 has what the shot's own
+// intensity becomes. All of it stands on a line of its own.
 fn print_flat_shot(rt: &impl Print, choice: u32) {
     let measured = Shot::open().measure(&[100, 100, 100, 50, 100, 150, 255, 45, 0]);
     let fixed = measured.shot.fix(choice);
@@ -111,8 +112,16 @@ fn print_flat_shot(rt: &impl Print, choice: u32) {
         .colour(1, Dial::Mix(1.0), &source, &mut destination);
     let tones = tones_of(&destination);
     let _ = println!(rt;
-        "flat shot of sum 300 by choice {choice}: numbers {} {} {}, black {}, white {}, first white {}",
-        measured.number, fixed.number, coloured.number, tones.black, tones.white, tones.before
+        "flat shot of sum 300 by choice {choice}: numbers {} {} {}, black {}, pixel {} {} {} at 300, white {}, first white {}",
+        measured.number,
+        fixed.number,
+        coloured.number,
+        tones.black,
+        destination[900],
+        destination[901],
+        destination[902],
+        tones.white,
+        tones.before
     );
 }
 
@@ -158,7 +167,7 @@ fn main(rt: HostRuntime) {
     // The single move names 7 before 9.
     print_move(&rt, 3, p, 765);
     print_move(&rt, 3, p, 766);
-    // All pixels of sum 300: entries 0 up to 299, 765 from 300.
+    // All pixels of sum 300: entries 0 up to 299, 382 at 300 by the cube and 383 equalised, 765 from 301.
     print_flat_shot(&rt, 1);
     print_flat_shot(&rt, 2);
     // Length 3 is measured, 4 refused 2.

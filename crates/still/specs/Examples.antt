@@ -21,14 +21,15 @@ two_greys a b = two_pixels ++ replicate 3 a ++ replicate 3 b
 
 unfoldable pub examples : List Example
 examples =
-    -- "input P6, LF, 2 1, LF, 255, LF, then bytes 100, 100, 100, 200, 200, 200: output the same header, then 127, 127, 127, 255, 255, 255"
-    (two_greys 100 200 gives two_greys 127 255)
+    -- "input P6, LF, 2 1, LF, 255, LF, then bytes 100, 100, 100, 200, 200, 200: output the same header", then "98 three times and 157 three
+    -- times" (document 02, wish 3)
+    (two_greys 100 200 gives two_greys 98 157)
     -- by method 2: method 1 would give other samples
-    ∷ (two_pixels ++ (10 ∷ 20 ∷ 30 ∷ 255 ∷ 255 ∷ 255 ∷ []) gives two_pixels ++ (95 ∷ 127 ∷ 159 ∷ 255 ∷ 255 ∷ 255 ∷ []))
+    ∷ (two_pixels ++ (10 ∷ 20 ∷ 30 ∷ 255 ∷ 255 ∷ 255 ∷ []) gives two_pixels ++ (58 ∷ 98 ∷ 137 ∷ 255 ∷ 255 ∷ 255 ∷ []))
     -- the header is written without leading zeros
-    ∷ (ascii "P6 002 01 0255 " ++ replicate 3 100 ++ replicate 3 200 gives two_greys 127 255)
+    ∷ (ascii "P6 002 01 0255 " ++ replicate 3 100 ++ replicate 3 200 gives two_greys 98 157)
     -- and without comments
-    ∷ (ascii "P6\n# job label\n2 1 # 2 pixels\r255\n" ++ replicate 3 100 ++ replicate 3 200 gives two_greys 127 255)
+    ∷ (ascii "P6\n# job label\n2 1 # 2 pixels\r255\n" ++ replicate 3 100 ++ replicate 3 200 gives two_greys 98 157)
     -- 12; 13, also where samples are missing; 14, also where bytes follow
     ∷ ([] gives ascii "refused 12\n")
     ∷ (ascii "P6\n2 1\n255" gives ascii "refused 12\n")

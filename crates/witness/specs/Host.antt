@@ -28,9 +28,10 @@ curve_calls =
     ∷ curve_call two 2 run
     ∷ []
 
--- The bytes, in what a call leaves, of the entries for the intensities 59, 60, 629 and 630.
+-- The bytes, in what a call leaves, of the entries for the intensities 59, 60, 61, 629, 630 and 631.
 abbrev pub bytes_around : Outcome → List ℕ
-bytes_around o = map (at o.bytes) (118 ∷ 119 ∷ 120 ∷ 121 ∷ 1258 ∷ 1259 ∷ 1260 ∷ 1261 ∷ [])
+bytes_around o =
+    map (at o.bytes) (118 ∷ 119 ∷ 120 ∷ 121 ∷ 122 ∷ 123 ∷ 1258 ∷ 1259 ∷ 1260 ∷ 1261 ∷ 1262 ∷ 1263 ∷ [])
 
 -- The bytes of a curve that is 120 for every intensity from 1 to 764.
 unfoldable pub level : List ℕ
@@ -71,10 +72,10 @@ pub record WitnessRuns : Type 0 where
   -- 3, which needs more pixels than can be listed here, by the strip's length: the limit, one pixel more, and a byte more than that
   pub lengths : map (λ n. first_of (curve_checks true true (strip_checks_of n))) (50331648 ∷ 50331651 ∷ 50331652 ∷ []) ≡ 0 ∷ 3 ∷ 2 ∷ []
   pub untouched : (curve_outcome (curve_call uneven 1 run)).bytes ≡ run
-  -- the strip has a pixel of intensity 60 and one of intensity 630; the cube curve's entries there are 0, 382, 382 and 765, the
-  -- equalised one's 0, 383, 383 and 765
-  pub cube : bytes_around (curve_outcome (curve_call two 1 run)) ≡ 0 ∷ 0 ∷ 126 ∷ 1 ∷ 126 ∷ 1 ∷ 253 ∷ 2 ∷ []
-  pub equalised : bytes_around (curve_outcome (curve_call two 2 run)) ≡ 0 ∷ 0 ∷ 127 ∷ 1 ∷ 127 ∷ 1 ∷ 253 ∷ 2 ∷ []
+  -- the strip has a pixel of intensity 60 and one of intensity 630; the cube curve's entries there are 0, 293, 382, 382, 472 and 765,
+  -- the equalised one's 0, 191, 383, 383, 574 and 765
+  pub cube : bytes_around (curve_outcome (curve_call two 1 run)) ≡ 0 ∷ 0 ∷ 37 ∷ 1 ∷ 126 ∷ 1 ∷ 126 ∷ 1 ∷ 216 ∷ 1 ∷ 253 ∷ 2 ∷ []
+  pub equalised : bytes_around (curve_outcome (curve_call two 2 run)) ≡ 0 ∷ 0 ∷ 191 ∷ 0 ∷ 127 ∷ 1 ∷ 127 ∷ 1 ∷ 62 ∷ 2 ∷ 253 ∷ 2 ∷ []
   pub colour_numbers : map (λ c. (colour_outcome c).number) colour_calls ≡ 10 ∷ 11 ∷ 11 ∷ 11 ∷ 7 ∷ 2 ∷ 8 ∷ 0 ∷ 0 ∷ 0 ∷ 0 ∷ []
   pub pixels : map (λ c. length (written c)) colour_calls ≡ 0 ∷ 0 ∷ 0 ∷ 0 ∷ 0 ∷ 0 ∷ 0 ∷ 2 ∷ 2 ∷ 0 ∷ 2 ∷ []
   pub colour_bytes : map (λ c. (colour_outcome c).bytes) colour_calls
@@ -88,5 +89,5 @@ pub record WitnessRuns : Type 0 where
       ∷ (31 ∷ 40 ∷ 49 ∷ 38 ∷ 40 ∷ 42 ∷ [])
       ∷ (20 ∷ 40 ∷ 60 ∷ 36 ∷ 40 ∷ 44 ∷ [])
       ∷ []
-      ∷ (96 ∷ 128 ∷ 159 ∷ 119 ∷ 128 ∷ 136 ∷ [])
+      ∷ (32 ∷ 64 ∷ 96 ∷ 119 ∷ 128 ∷ 136 ∷ [])
       ∷ []

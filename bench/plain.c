@@ -23,6 +23,17 @@ static void count(const uint8_t *strip, size_t length, uint32_t *counts)
 
 /* ---- Fixing ---- */
 
+/* A sum's share, part[s] / whole, counts all darker pixels and half of its own, in halves of a pixel. Hands back the whole. */
+static uint64_t shares(const uint32_t *counts, uint64_t *part)
+{
+    uint64_t pixels = 0;
+    for (uint32_t s = 0; s < SUMS; s++) {
+        part[s] = 2 * pixels + counts[s];
+        pixels += counts[s];
+    }
+    return 2 * pixels;
+}
+
 static uint64_t target(uint64_t k)
 {
     const uint64_t cube = 255 * 255 * 255;
@@ -34,39 +45,37 @@ static uint64_t target(uint64_t k)
 }
 
 /* The aims do not fall, so the place is looked for from the last one on. Of two equal distances the smaller k wins. */
-static void cube_entries(const uint64_t *upto, uint64_t pixels, uint16_t *entries)
+static void cube_entries(const uint64_t *part, uint64_t whole, uint16_t *entries)
 {
     uint64_t targets[SUMS];
     for (uint64_t k = 0; k < SUMS; k++)
-        targets[k] = pixels * target(k);
+        targets[k] = whole * target(k);
     uint32_t k = 0;
     for (uint32_t s = 0; s < SUMS; s++) {
-        uint64_t aim = target(WHITE) * upto[s];
+        uint64_t aim = target(WHITE) * part[s];
         while (k < WHITE && targets[k + 1] <= aim)
             k++;
         entries[s] = (uint16_t)(k < WHITE && targets[k + 1] - aim < aim - targets[k] ? k + 1 : k);
     }
 }
 
-static void equalised_entries(const uint64_t *upto, uint64_t pixels, uint16_t *entries)
+static void equalised_entries(const uint64_t *part, uint64_t whole, uint16_t *entries)
 {
     for (uint32_t s = 0; s < SUMS; s++)
-        entries[s] = (uint16_t)near_wide(WHITE * upto[s], pixels);
+        entries[s] = (uint16_t)near_wide(WHITE * part[s], whole);
 }
 
 void plain_curve(const uint8_t *strip, size_t length, uint32_t choice, uint8_t *curve)
 {
     uint32_t counts[SUMS] = {0};
     count(strip, length, counts);
-    uint64_t upto[SUMS];
-    uint64_t pixels = 0;
-    for (uint32_t s = 0; s < SUMS; s++)
-        upto[s] = pixels += counts[s];
+    uint64_t part[SUMS];
+    uint64_t whole = shares(counts, part);
     uint16_t entries[SUMS];
     if (choice == 1)
-        cube_entries(upto, pixels, entries);
+        cube_entries(part, whole, entries);
     else
-        equalised_entries(upto, pixels, entries);
+        equalised_entries(part, whole, entries);
     entries[0] = 0;
     entries[WHITE] = WHITE;
     for (uint32_t s = 0; s < SUMS; s++) {

@@ -1,6 +1,6 @@
 /*
- * The library's two calls, and the settings of the dial, in plain, careful C, with no checks: what their speed is compared with. A loop for each job, a division for
- * each sample, as an engineer would write it down from document 01.
+ * The library's two calls, and the settings of the dial, in plain, careful C, with no checks: what their speed is compared with. A loop
+ * for each job, a division for each sample, as an engineer would write it down from documents 01 and 02.
  */
 #ifndef PLAIN_H
 #define PLAIN_H

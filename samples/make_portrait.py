@@ -5,10 +5,12 @@ contrast, averaged, and then exposed far too short.
 """
 
 import pathlib
+import sys
 from math import isqrt
 
-WIDTH, HEIGHT = 160, 100
-FINE = 3  # points to a pixel in each direction
+# another script may run this one from elsewhere
+sys.path.insert(0, str(pathlib.Path(__file__).resolve().parent))
+from painting import FINE, drawn, lit, mixed, scaled, within  # noqa: E402
 
 SKIN = (216, 152, 108)
 LIPS = (190, 98, 92)
@@ -22,27 +24,6 @@ TONES = (
     (246, 212, 184), (236, 190, 154), (222, 164, 124), (204, 140, 98), (180, 114, 74),
     (152, 90, 55), (124, 70, 41), (97, 53, 31), (72, 39, 24), (50, 28, 19),
 )
-
-
-def within(x, y, cx, cy, rx, ry):
-    """Whether a point lies in an ellipse."""
-    return ((x - cx) * ry) ** 2 + ((y - cy) * rx) ** 2 <= (rx * ry) ** 2
-
-
-def scaled(colour, thousandths):
-    return tuple(min(255, c * thousandths // 1000) for c in colour)
-
-
-def mixed(one, other, thousandths):
-    return tuple((a * (1000 - thousandths) + b * thousandths) // 1000 for a, b in zip(one, other))
-
-
-def lit(colour, x, y, cx, cy, rx, ry):
-    """The colour on a rounded body, with a lamp at the upper left in front of it."""
-    u, v = 1000 * (x - cx) // rx, 1000 * (y - cy) // ry
-    toward = isqrt(max(0, 1000**2 - u * u - v * v))
-    light = max(0, (-520 * u - 480 * v + 706 * toward) // 1000)
-    return scaled(colour, 380 + 700 * light // 1000)
 
 
 def background(x, y):
@@ -127,14 +108,8 @@ def underexposed(total, x, y, channel):
     return (1000 + total * 60000 // (255 * FINE * FINE) + grain) // 1000
 
 
-def pixel(column, row):
-    points = [scene(FINE * column + i, FINE * row + j) for j in range(FINE) for i in range(FINE)]
-    return bytes(underexposed(sum(point[k] for point in points), column, row, k) for k in range(3))
-
-
 def picture():
-    samples = b"".join(pixel(column, row) for row in range(HEIGHT) for column in range(WIDTH))
-    return b"P6\n%d %d\n255\n" % (WIDTH, HEIGHT) + samples
+    return drawn(scene, underexposed)
 
 
 if __name__ == "__main__":

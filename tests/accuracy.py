@@ -18,7 +18,7 @@ from fractions import Fraction
 
 import delivery
 from colour import apart, chroma, hue, width
-from exact import TARGETS, curve_of, moved, pixels_of
+from exact import TARGETS, curve_of, entry, moved, pixels_of
 
 sys.path.insert(0, "tests/figures")
 import hue as figures  # noqa: E402
@@ -29,8 +29,9 @@ CRATES = pathlib.Path("crates")
 PICTURE = pathlib.Path("samples/portrait.ppm")
 # two pixels of the picture, of one hue
 SKIN = 49, 34, 24
-DARKER = 31, 22, 16
+DARKER = 27, 21, 17
 DIAL = "## Under the strength dial\n"
+MOST_PIXELS = 16777216
 # the amount of the worked mix, k of k / 256, and the worked held value
 FULL, HALF, HELD = 256, 128, 300
 MIXED_FACTOR = f"({FULL} − k + k × factor) / {FULL}"
@@ -85,7 +86,8 @@ class Portrait:
         balanced = subprocess.run(["bin/balance"], input=picture, stdout=subprocess.PIPE, check=True).stdout
         self.columns, self.source = samples(picture)
         self.pixels, self.balanced = pixels_of(self.source), pixels_of(samples(balanced)[1])
-        self.entry = curve_of(self.source, 1)[sum(SKIN)]
+        self.curve = curve_of(self.source, 1)
+        self.entry = self.curve[sum(SKIN)]
         self.place = self.pixels.index(SKIN)
         self.written = self.balanced[self.place]
         # method 2, an intensity of at most 255 and a target above 255
@@ -93,10 +95,14 @@ class Portrait:
         self.factor, self.held_factor = (Fraction(765 - f, 2 * sum(SKIN)) for f in (self.entry, HELD))
         self.half, self.held = replayed(self.source, SKIN, [("mix", HALF / FULL), ("hold", HELD)])
 
+    def up_to(self, s):
+        """H(s)."""
+        return sum(sum(pixel) <= s for pixel in self.pixels)
+
     def skin_tone(self):
         """A row to a step: what, the number, how far off it may be and how far it is."""
         s, entry, written = sum(SKIN), self.entry, self.written
-        at_most, pixels = sum(sum(pixel) <= s for pixel in self.pixels), len(self.pixels)
+        pixels, at_most, below = len(self.pixels), self.up_to(s), self.up_to(s - 1)
         factor = self.factor
         exact = tuple(255 - factor * (s - c) for c in SKIN)
         r, g, b = SKIN
@@ -111,10 +117,12 @@ class Portrait:
         yield f"| its hue | 60° × ({g} − {b}) / {chroma(SKIN)} = {float(hue(SKIN)):g}° | |"
         yield f"| pixels of the shot, N | {pixels:,} | |"
         yield f"| of them with an intensity of at most {s}, H({s}) | {at_most:,} | |"
-        yield f"| what N × G(k) comes nearest to, {TARGETS[765]:,} × H({s}) | {TARGETS[765] * at_most:,} | |"
+        yield f"| of them with one of at most {s - 1}, H({s - 1}) | {below:,} | |"
+        aim = TARGETS[765] * (at_most + below)
+        yield f"| what 2 × N × G(k) comes nearest to, {TARGETS[765]:,} × (H({s}) + H({s - 1})) | {aim:,} | |"
         for k in entry - 1, entry, entry + 1:
-            off = pixels * TARGETS[k] - TARGETS[765] * at_most
-            yield f"| N × G({k}) | {pixels * TARGETS[k]:,} | {abs(off):,} {'above' if off > 0 else 'below'} |"
+            off = 2 * pixels * TARGETS[k] - aim
+            yield f"| 2 × N × G({k}) | {2 * pixels * TARGETS[k]:,} | {abs(off):,} {'above' if off > 0 else 'below'} |"
         yield f"| the curve's entry for {s} | {entry} | |"
         yield f"| factor | (765 − {entry}) / (2 × {s}) = {765 - entry} / {2 * s} = {places(factor, 4)} | |"
         yield f"| exact samples, 255 − factor × ({s} − c) | {numbers(exact)} | |"
@@ -152,6 +160,25 @@ class Portrait:
             f"{numbers(DARKER)}, of the same {float(hue(SKIN)):g}°, is written as {numbers(other)}, {places(hue(other))}°: "
             f"{places(off)}° from the pixel of the table. A key that was sampled there and opened by {places(width(at))}° alone would lose it."
         )
+
+    def brightest_sentences(self):
+        """What the text says of the entries for the brightest pixels of a shot."""
+        sums = [sum(pixel) for pixel in self.pixels]
+        s, least = max(sums), min(sums)
+        assert 0 < least and s < 765 and set(self.curve[:least]) == {0} and set(self.curve[s + 1 :]) == {765}
+        yield "A pixel that is brighter than all measured ones gets the entry 765"
+        yield "one that is darker than all of them gets 0"
+        (written,) = {after for before, after in zip(self.pixels, self.balanced) if sum(before) == s}
+        assert abs(sum(written) - self.curve[s]) <= 1
+        yield (
+            f"In the portrait {sums.count(s)} of {len(sums):,} pixels have its greatest intensity, {s}. They get the entry {self.curve[s]} "
+            f"and are written as {numbers(written)}."
+        )
+        yield f"Where all pixels are alike they get {entry(1, 1, 0, 1)} by the cube, and {entry(2, 1, 0, 1)} equalised."
+        # the fewest of all, and the edge of the equalised curve, which rounds
+        assert entry(1, MOST_PIXELS, MOST_PIXELS - 1, MOST_PIXELS) == 764
+        assert [entry(2, 7 * n, 7 * n - 7, 7 * n) for n in (764, 765)] == [764, 765]
+        yield "the cube's curve never has 765 for them, and the equalised one has it where they are a 765th of all pixels or fewer"
 
 
     def half_strength(self, tolerance):
@@ -409,7 +436,7 @@ def main():
     tables = [figures.table(rows), list(portrait.skin_tone()), list(portrait.by_each_method()), list(two_below())]
     tables.append(list(delivery.table(portrait.balanced, portrait.columns)))
     tables += [list(commands(full, mix_)), list(worst_mixes(mixes, mix_[0])), list(portrait.half_strength(mix_)), list(four_below(most_below()))]
-    sentences = [*portrait.sentences(), *other_sentences(), *portrait.dial_sentences(mix_), *mix_sentences(mixes, mix_)]
+    sentences = [*portrait.sentences(), *portrait.brightest_sentences(), *other_sentences(), *portrait.dial_sentences(mix_), *mix_sentences(mixes, mix_)]
     if sys.argv[1:] == ["print"]:
         print("\n\n".join(["\n".join(table) for table in tables] + sentences))
         return

@@ -1,6 +1,7 @@
-"""Document 01 in plain integers: what the output of the filter and of the program `balance` is compared with.
+"""Document 01, with document 02's rule for the curve, in plain integers: what the output of the filter and of the program `balance` is
+compared with.
 
-Written from the document alone, and apart from host/exact.c, so that a slip in one of the two shows.
+Written from the documents alone, and apart from host/exact.c, so that a slip in one of the two shows.
 """
 
 from itertools import accumulate
@@ -23,12 +24,14 @@ def near(n, d):
     return (2 * n + d) // (2 * d)
 
 
-def entry(choice, pixels, at_most):
-    """The entry for a sum, before the ends are set: choice 1 is the cube's, 2 the equalised."""
+def entry(choice, pixels, below, at_most):
+    """The entry for a sum that `below` pixels are below and `at_most` have at most, before the ends are set: choice 1 is the cube's, 2
+    the equalised. "(H(s) + H(s − 1)) / (2 × N)" is the share that it is made from."""
+    part, whole = at_most + below, 2 * pixels
     if choice == 2:
-        return near(765 * at_most, pixels)
+        return near(765 * part, whole)
     # min takes the first of equal distances, the smaller k
-    return min(range(766), key=lambda k: abs(pixels * TARGETS[k] - TARGETS[765] * at_most))
+    return min(range(766), key=lambda k: abs(whole * TARGETS[k] - TARGETS[765] * part))
 
 
 def pixels_of(frame):
@@ -41,8 +44,9 @@ def curve_of(frame, choice):
     for pixel in pixels_of(frame):
         counts[sum(pixel)] += 1
     at_most = list(accumulate(counts))
-    entries = {h: entry(choice, at_most[765], h) for h in set(at_most)}
-    return [0] + [entries[h] for h in at_most[1:765]] + [765]
+    steps = list(zip(at_most, at_most[1:765]))
+    entries = {step: entry(choice, at_most[765], *step) for step in set(steps)}
+    return [0] + [entries[step] for step in steps] + [765]
 
 
 def naik_murthy(c, s, f):

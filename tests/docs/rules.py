@@ -33,7 +33,7 @@ FORMULA = re.compile(r"(?:near|[a-zGHN]|\d+|[-+*/() ]|\*\*)+")
 LETTERS = (
     "The **intensity** of a pixel, s, is its three samples added, 0 to 765.",
     "**near(x)** is the whole number nearest to the exact fraction x, halves up.",
-    "H(s) is the number of measured pixels whose intensity is at most s, so H(765) = N.",
+    "H(s) is the number of measured pixels whose intensity is at most s, so H(765) = N and H(−1) = 0.",
     "By both, entry 0 is then set to 0 and entry 765 to 765",
     "Black, s = 0, and white, s = 765, stay for every target.",
     "In every other pixel each sample c becomes what the table says, where d = 255 − c and t = 765 − s.",
@@ -76,11 +76,12 @@ def target_faults(rows):
 
 
 def tallies():
-    """N and H: a tie, since G(382) + G(383) = G(765), the ends, and any."""
+    """N, H(s − 1) and H(s): ties, since G(382) + G(383) = G(765), with and without pixels of the own tone, the ends, and any."""
     chosen = random.Random(766)
-    yield 2, 1
+    yield from ((1, 0, 1), (2, 1, 1))
     for pixels in 1, 3, 1000, 16777216:
-        yield from {(pixels, 0), (pixels, chosen.randint(0, pixels)), (pixels, pixels)}
+        below, at_most = sorted(chosen.choices(range(pixels + 1), k=2))
+        yield from {(pixels, 0, 0), (pixels, below, at_most), (pixels, 0, at_most), (pixels, below, pixels), (pixels, pixels, pixels)}
 
 
 def entry_faults(rows):
@@ -95,13 +96,14 @@ def entry_faults(rows):
         return
     first, last, here, aim, wins = cube.groups()
     places = range(int(first), int(last) + 1)
-    for pixels, at_most in tallies():
-        letters = {"N": pixels, "G": lambda k: Fraction(TARGETS[int(k)]), "H": lambda s: Fraction(at_most), "s": 0}
+    for pixels, below, at_most in tallies():
+        counts = {0: Fraction(below), 1: Fraction(at_most)}
+        letters = {"N": pixels, "G": lambda k: Fraction(TARGETS[int(k)]), "H": counts.__getitem__, "s": 1}
         far = {k: abs(computed(here, k=k, **letters) - computed(aim, **letters)) for k in places}
         nearest = [k for k in places if far[k] == min(far.values())]
         found = nearest[0 if wins == "smaller" else -1], computed(equalised.group(1), **letters)
-        if found != (entry(1, pixels, at_most), entry(2, pixels, at_most)):
-            yield f"{PAGE}: for H = {at_most} of N = {pixels} the page's entries are {found}"
+        if found != (entry(1, pixels, below, at_most), entry(2, pixels, below, at_most)):
+            yield f"{PAGE}: for H = {below} and {at_most} of N = {pixels} the page's entries are {found}"
             return
 
 
@@ -189,26 +191,51 @@ def curve_of_intensities(choice, *intensities):
     return curve_of(bytes(sample for s in intensities for sample in (min(s, 255), min(max(s - 255, 0), 255), max(s - 510, 0))), choice)
 
 
-def curve_faults(text):
-    """What is wrong with the sentences on curves, of two intensities and of one."""
-    two = re.search(
-        r"intensity (\d+) and one of (\d+), the cube's curve is 0 up to (\d+), (\d+) from (\d+) to (\d+), and 765 from (\d+); "
-        r"equalised, it has (\d+) in place of \4\.",
-        text,
+def two_tones_curve(choice, dark, bright):
+    """The sentence's figures for the curve of two intensities: the entries at them and between them, where the rest is 0 and 765."""
+    curve = curve_of_intensities(choice, dark, bright)
+    at_dark, between, at_bright = (curve[s] for s in (dark, dark + 1, bright))
+    rest = [between] * (bright - dark - 1)
+    if curve != [0] * dark + [at_dark, *rest, at_bright] + [765] * (765 - bright):
+        raise SystemExit(f"the curve of {dark} and {bright} has other steps than the page tells of")
+    return at_dark, between, at_bright
+
+
+def one_tone_entry(choice, s):
+    """The figure for the curve of one intensity, where the rest is 0 and 765."""
+    curve = curve_of_intensities(choice, s)
+    if curve != [0] * s + [curve[s]] + [765] * (765 - s):
+        raise SystemExit(f"the curve of {s} has other steps than the page tells of")
+    return curve[s]
+
+
+def curve_sentences(dark, bright):
+    """What is said of the curves of two intensities and of one."""
+    low, level, high = two_tones_curve(1, dark, bright)
+    others = two_tones_curve(2, dark, bright)
+    yield (
+        f"intensity {dark} and one of {bright}, the cube's curve is 0 up to {dark - 1}, {low} at {dark}, {level} from {dark + 1} to "
+        f"{bright - 1}, {high} at {bright}, and 765 from {bright + 1}; equalised, it has {others[0]}, {others[1]} and {others[2]} in place "
+        f"of {low}, {level} and {high}."
     )
-    one = re.search(r"All pixels of intensity (\d+): the entries are 0 up to (\d+), and 765 from (\d+), by both choices\.", text)
-    if not one or not two:
-        yield f"{PAGE}: the sentences on curves are not read"
-        return
-    dark, bright, below, cube, first, last, white, equalised = map(int, two.groups())
-    for choice, level in (1, cube), (2, equalised):
-        curve = [0] * (below + 1) + [level] * (last - first + 1) + [765] * (766 - white)
-        if curve_of_intensities(choice, dark, bright) != curve or (first, white) != (below + 1, last + 1):
-            yield f"{PAGE}: the curve of {dark} and {bright} by choice {choice} is another"
-    s, below, white = map(int, one.groups())
-    for choice in 1, 2:
-        if curve_of_intensities(choice, s) != [0] * (below + 1) + [765] * (766 - white) or white != below + 1:
-            yield f"{PAGE}: the curve of {s} by choice {choice} is another"
+    yield (
+        f"All pixels of intensity {dark}: the entries are 0 up to {dark - 1}, {one_tone_entry(1, dark)} at {dark} by the cube and "
+        f"{one_tone_entry(2, dark)} equalised, and 765 from {dark + 1}."
+    )
+
+
+def curve_faults(text):
+    """What is wrong with the sentences on curves: of the intensities whose curves are proved."""
+    proved = {tuple(map(int, found)) for found in re.findall(r"curve \w+ \((\d+) ∷ (\d+) ∷ \[\]\)", read(STARRED))}
+    for sentence in curve_sentences(*min(proved)):
+        if sentence not in text:
+            yield f"{PAGE} does not say: {sentence}"
+
+
+def flat_sentence(printed):
+    """What is said of the pixel of the shot's own intensity, by what `frames` prints."""
+    first, second = re.findall(r"^flat shot .*, pixel (\d+) (\d+) (\d+) at 300,", printed, re.M)
+    return f"So (255, 45, 0) is written by method 1 as ({', '.join(first)}) or ({', '.join(second)})."
 
 
 def run_sentences(printed):
@@ -225,6 +252,7 @@ def run_sentences(printed):
     yield f"A strip of {taken} bytes is measured, one of {refused} is refused {number}."
     yield f"A pixel moves to the target {target}, and {above} is refused {refused_by}."
     yield f"At {length * times // 3:,} pixels a shot measures one more, and refuses two by {over}."
+    yield flat_sentence(printed)
 
 
 def run_faults(text):
@@ -254,10 +282,18 @@ def selftest():
     if not list(target_faults([["0 to 765", "k³"]])):
         sys.exit("rules.py does not find a wrong G")
     choices = table(PAGE, ["choice", "the entry for s"]).rows
-    for place, right, wrong in (0, "smaller", "larger"), (0, "G(765)", "G(764)"), (1, "765 × H", "764 × H"):
+    for place, right, wrong in (
+        (0, "smaller", "larger"),
+        (0, "G(765)", "G(764)"),
+        (0, "H(s − 1)", "H(s)"),
+        (0, "2 × N", "1 × N"),
+        (1, "765 ×", "764 ×"),
+        (1, "H(s − 1)", "H(s)"),
+        (1, "2 × N", "1 × N"),
+    ):
         rows = [list(row) for row in choices]
         rows[place][1] = rows[place][1].replace(right, wrong)
-        if not list(entry_faults(rows)):
+        if rows == choices or not list(entry_faults(rows)):
             sys.exit(f"rules.py does not find {wrong} wrong in the table of choices")
 
 

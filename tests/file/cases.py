@@ -35,7 +35,7 @@ HEADER = b"P6\n2 1\n255\n"
 # comments directly after the letters and after numbers, between white space, ended by LF and by CR
 COMMENTED_HEADER = b"P6#a\n2 #b\r1#\n\n#c\n255\n"
 SAMPLES = bytes([100, 100, 100, 200, 200, 200])
-BALANCED = HEADER + bytes([127, 127, 127, 255, 255, 255])
+BALANCED = HEADER + bytes([98, 98, 98, 157, 157, 157])
 
 
 def accepted(name, shows, header, samples=SAMPLES, by_hand=BALANCED):
@@ -113,7 +113,7 @@ def last_white_space():
     one = "exactly one white-space byte; then the samples"
     yield refused("two_last_line_feeds", f"{one}: a second LF is a sample", 16, HEADER + b"\n" + SAMPLES)
     yield refused("cr_lf_last", f"{one}: after CR the LF is a sample", 16, b"P6\r\n2 1\r\n255\r\n" + SAMPLES)
-    # the darker of two grey pixels ends at 127, whatever grey it is
+    # the darker of two grey pixels ends at 98, whatever grey it is
     for name, byte in (*WHITE.items(), ("digit", b"5"), ("hash", b"#")):
         yield accepted(f"first_samples_{name}", f"{one}: the samples may be any bytes", HEADER, 3 * byte + SAMPLES[3:])
     cr_last = b"P6\r\n2 1\r\n255\r"
@@ -343,21 +343,23 @@ BLACK, WHITEST = 3 * [0], 3 * [255]
 
 
 def moves():
-    """Every line of method 2 by hand: n pixels of one colour beside m white ones, where n of n + m settles the colour's entry."""
-    for name, line, colour, n, m, written in (
-        ("dark_to_255", "s at most 255, f at most 255", DARK, 1, 5, [43, 85, 128]),
-        ("dark_to_382", "s at most 255, f above 255", DARK, 1, 1, [95, 127, 159]),
-        ("sum_255_to_382", "s at most 255, f above 255", [255, 0, 0], 1, 1, [255, 63, 63]),
-        ("sum_256_to_382", "s from 256 to 510: as method 1", [255, 1, 0], 1, 1, [255, 64, 63]),
-        ("middle_to_255", "s from 256 to 510: as method 1", MIDDLE, 1, 5, [43, 85, 128]),
-        ("middle_to_382", "s from 256 to 510: as method 1", MIDDLE, 1, 1, [86, 127, 169]),
-        ("sum_510_to_255", "s from 256 to 510: as method 1", [255, 255, 0], 1, 5, [128, 128, 0]),
-        ("sum_511_to_255", "s above 510, f at most 510", [255, 255, 1], 1, 5, [128, 128, 0]),
-        ("bright_to_382", "s above 510, f at most 510", BRIGHT, 1, 1, [96, 127, 159]),
-        ("bright_to_510", "s above 510, f at most 510", BRIGHT, 5, 1, [128, 170, 213]),
-        ("bright_to_563", "s above 510, f above 510", BRIGHT, 11, 1, [154, 188, 221]),
+    """Every line of method 2 by hand: n pixels of one colour beside b black and m white ones, where 2 b + n of 2 (b + n + m) settles the
+    colour's entry."""
+    for name, line, colour, b, n, m, written in (
+        ("dark_to_255", "s at most 255, f at most 255", DARK, 0, 1, 2, [43, 85, 128]),
+        ("dark_to_382", "s at most 255, f above 255", DARK, 0, 3, 0, [95, 127, 159]),
+        ("sum_255_to_382", "s at most 255, f above 255", [255, 0, 0], 1, 1, 1, [255, 63, 63]),
+        ("sum_256_to_382", "s from 256 to 510: as method 1", [255, 1, 0], 1, 2, 1, [255, 64, 63]),
+        ("middle_to_255", "s from 256 to 510: as method 1", MIDDLE, 0, 2, 4, [43, 85, 128]),
+        ("middle_to_382", "s from 256 to 510: as method 1", MIDDLE, 2, 1, 2, [86, 127, 169]),
+        ("sum_510_to_255", "s from 256 to 510: as method 1", [255, 255, 0], 0, 1, 2, [128, 128, 0]),
+        ("sum_511_to_255", "s above 510, f at most 510", [255, 255, 1], 0, 1, 2, [128, 128, 0]),
+        ("bright_to_382", "s above 510, f at most 510", BRIGHT, 1, 3, 1, [96, 127, 159]),
+        ("bright_to_510", "s above 510, f at most 510", BRIGHT, 2, 1, 0, [128, 170, 213]),
+        ("bright_to_563", "s above 510, f above 510", BRIGHT, 5, 1, 0, [154, 188, 221]),
     ):
-        yield drawn(name, f"Method 2, {line}", n + m, 1, n * colour + m * WHITEST, n * written + m * WHITEST)
+        samples = b * BLACK + n * colour + m * WHITEST
+        yield drawn(name, f"Method 2, {line}", b + n + m, 1, samples, b * BLACK + n * written + m * WHITEST)
 
 
 def pictures():
@@ -365,10 +367,14 @@ def pictures():
     yield drawn("black", stays, 3, 2, 6 * BLACK, 6 * BLACK)
     yield drawn("white", stays, 2, 3, 6 * WHITEST, 6 * WHITEST)
     yield drawn("black_and_white", stays, 2, 1, BLACK + WHITEST, BLACK + WHITEST)
-    for name, pixel in ("dark", DARK), ("middle", MIDDLE), ("bright", BRIGHT):
-        shows = "a curve of one sum has 765 there, and every pixel ends white"
-        yield drawn(f"flat_{name}", shows, 3, 2, 6 * pixel, 6 * WHITEST)
-    yield drawn("one_pixel", "Width times height is 1 to 16,384: one pixel", 1, 1, MIDDLE, WHITEST)
+    half = "a curve of one sum has 382 there: half of the pixels count as below it"
+    for name, pixel, written in (
+        ("dark", DARK, [95, 127, 159]),
+        ("middle", MIDDLE, [86, 127, 169]),
+        ("bright", BRIGHT, [96, 127, 159]),
+    ):
+        yield drawn(f"flat_{name}", half, 3, 2, 6 * pixel, 6 * written)
+    yield drawn("one_pixel", "Width times height is 1 to 16,384: one pixel", 1, 1, MIDDLE, [86, 127, 169])
 
     cube = "Fixing the curve, choice 1, and Moving a pixel, method 2"
     yield drawn("grey_ramp", cube, 16, 16, [c for c in range(256) for _ in "rgb"])
@@ -448,33 +454,33 @@ def tools():
 
 # the outputs of the pictures that have none by hand, by their digests
 PICTURES = {
-    "grey_ramp": "36209c40292d401e",
-    "primaries": "6483c0859083412a",
-    "random": "cfbd418fdd447fa9",
-    "random_tall": "7ce0ad827b0e2a23",
-    "random_dark": "f0a55b57004b3bdd",
-    "random_middle": "7d3c509551d0791c",
-    "random_bright": "ac474262f5cbddb5",
-    "random_row": "b1a95558046eae56",
-    "random_column": "a144bc293c7b5ade",
-    "random_saturated": "7d159c178c40efc3",
-    "full_16384_by_1": "34d7967b962a83b2",
-    "full_1_by_16384": "505ef614dd5bac9e",
-    "full_128_by_128": "f9365740615ab146",
-    "full_127_by_129": "e544fb1ba6e14431",
-    "longest": "f9365740615ab146",
-    "longest_of_spaces": "f9365740615ab146",
-    "netpbm_ramp": "54f1f61f886165d7",
-    "netpbm_gingham": "700e06b0083cf3e7",
-    "netpbm_camouflage_scaled": "fd3f59efb88b3630",
-    "imagemagick_rose": "dd24ff65fcfddd8b",
-    "imagemagick_gradient": "e7e601f45c6ac29b",
-    "imagemagick_comment": "73ca2330549464ea",
-    "imagemagick_comment_lines": "e7e601f45c6ac29b",
-    "imagemagick_header_512": "73ca2330549464ea",
-    "gimp_gradient": "e7e601f45c6ac29b",
-    "ghostscript_page": "838fad42aebc4db3",
-    "vips_gradient": "e7e601f45c6ac29b",
+    "grey_ramp": "9415a547f51d4365",
+    "primaries": "b6dae150856bbd5c",
+    "random": "c1eafb926fe4ea1a",
+    "random_tall": "9c65e33ee8448084",
+    "random_dark": "3c4b86cd8a2a3c88",
+    "random_middle": "04cf171996b6dd5d",
+    "random_bright": "14093304a37bd1f3",
+    "random_row": "fbd24f2cd7fdfd4c",
+    "random_column": "d2c144821207315b",
+    "random_saturated": "27464d09e1ddd30e",
+    "full_16384_by_1": "7bd9a8387b3327f4",
+    "full_1_by_16384": "f1e9b31018fb2925",
+    "full_128_by_128": "bdacde7a1eb65303",
+    "full_127_by_129": "f7481e3c6f5b4b10",
+    "longest": "bdacde7a1eb65303",
+    "longest_of_spaces": "bdacde7a1eb65303",
+    "netpbm_ramp": "592edeb9e3f85d88",
+    "netpbm_gingham": "4d2da06451c2bed3",
+    "netpbm_camouflage_scaled": "85b70f01097fb0db",
+    "imagemagick_rose": "d1dbef73445c5dea",
+    "imagemagick_gradient": "915a9524ee7c771c",
+    "imagemagick_comment": "1bf93ff042ffcbe0",
+    "imagemagick_comment_lines": "915a9524ee7c771c",
+    "imagemagick_header_512": "1bf93ff042ffcbe0",
+    "gimp_gradient": "915a9524ee7c771c",
+    "ghostscript_page": "5741c321b77fa039",
+    "vips_gradient": "915a9524ee7c771c",
 }
 
 

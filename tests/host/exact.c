@@ -42,26 +42,41 @@ static void cumulative(const int64_t *counts, int64_t *at_most)
 
 /* ---- Fixing the curve ---- */
 
+/*
+ * Document 02, wish 3: "wherever the curves used H(s) / N they now use (H(s) + H(s − 1)) / (2 × N), with H(−1) = 0, for both
+ * choices and exact as before." So where document 01, quoted below, has H(s) and N, the two parts of this fraction stand.
+ */
+struct share {
+    int64_t part;  /* H(s) + H(s − 1) */
+    int64_t whole; /* 2 × N */
+};
+
+static struct share share_of(const int64_t *at_most, int s)
+{
+    int64_t below = s == 0 ? 0 : at_most[s - 1];
+    return (struct share){at_most[s] + below, 2 * at_most[765]};
+}
+
 /* "Near" means the nearest whole number, halves up, of the exact fraction: the whole part of n / d + 1 / 2. */
 static int64_t near(int64_t n, int64_t d)
 {
     return (2 * n + d) / (2 * d);
 }
 
-/* "the distance between N × G(k) and G(765) × H(s)": both lie below 2^51. */
-static int64_t distance(int64_t pixels, int64_t k, int64_t at_most)
+/* "the distance between N × G(k) and G(765) × H(s)": with 2 × N for N, at most 2^25, both lie below 2^52. */
+static int64_t distance(struct share share, int64_t k)
 {
-    int64_t difference = pixels * exact_target(k) - exact_target(765) * at_most;
+    int64_t difference = share.whole * exact_target(k) - exact_target(765) * share.part;
     return difference < 0 ? -difference : difference;
 }
 
 /* "Choice 1, cube …: the entry for s is the k where the distance … is least. Of two equal distances the smaller k wins." */
-static uint32_t cube_entry(int64_t pixels, int64_t at_most)
+static uint32_t cube_entry(struct share share)
 {
     int64_t best = 0;
-    int64_t least = distance(pixels, 0, at_most);
+    int64_t least = distance(share, 0);
     for (int64_t k = 1; k <= 765; k++) {
-        int64_t this_one = distance(pixels, k, at_most);
+        int64_t this_one = distance(share, k);
         if (this_one < least) {
             least = this_one;
             best = k;
@@ -71,9 +86,9 @@ static uint32_t cube_entry(int64_t pixels, int64_t at_most)
 }
 
 /* "Choice 2, equalised …: the entry is 765 × H(s) / N to the nearest whole number, halves up." */
-static uint32_t equalised_entry(int64_t pixels, int64_t at_most)
+static uint32_t equalised_entry(struct share share)
 {
-    return (uint32_t)near(765 * at_most, pixels);
+    return (uint32_t)near(765 * share.part, share.whole);
 }
 
 void exact_curve(const uint8_t *strip, size_t length, uint32_t choice, uint32_t *entries)
@@ -82,13 +97,13 @@ void exact_curve(const uint8_t *strip, size_t length, uint32_t choice, uint32_t 
     int64_t at_most[EXACT_SUMS];
     tally(strip, length, counts);
     cumulative(counts, at_most);
-    int64_t pixels = at_most[765];
-    /* "Sums never measured get their entries by the same rule." An equal H gives an equal entry and is not worked out again. */
+    /* "Sums never measured get their entries by the same rule." An equal share gives an equal entry, not worked out again. */
     for (int s = 0; s < EXACT_SUMS; s++) {
-        if (s > 0 && at_most[s] == at_most[s - 1])
+        struct share share = share_of(at_most, s);
+        if (s > 0 && share.part == share_of(at_most, s - 1).part)
             entries[s] = entries[s - 1];
         else
-            entries[s] = choice == 1 ? cube_entry(pixels, at_most[s]) : equalised_entry(pixels, at_most[s]);
+            entries[s] = choice == 1 ? cube_entry(share) : equalised_entry(share);
     }
     /* "In both, entry 0 is then set to 0 and entry 765 to 765 …" */
     entries[0] = 0;

@@ -1,8 +1,9 @@
 /*
- * Document 01 for the host's two calls, in plain C: what the library's answers are compared with.
+ * Document 01 for the host's two calls, with document 02's rule for the curve, in plain C: what the library's answers are
+ * compared with.
  *
- * Written from the document alone and with exact integers, a comment for each of its lines. It is slow, and it takes nothing from
- * the library or its header, so that a slip in those shows.
+ * Written from the documents alone and with exact integers, a comment for each of their lines. It is slow, and it takes nothing
+ * from the library or its header, so that a slip in those shows.
  */
 #ifndef EXACT_H
 #define EXACT_H

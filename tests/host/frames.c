@@ -1,5 +1,5 @@
 /*
- * Document 01's reference frames, as far as the two calls reach them.
+ * Document 01's reference frames, with the curves that document 02, wish 3, gives them, as far as the two calls reach them.
  *
  * Out of reach: a target above 765 refused 9, since targets come to the host's call as entries of a curve, and a curve with an
  * entry above 765 is refused 11 (broken_curves.c); and black or white with another target than its own, since a curve keeps both
@@ -74,43 +74,58 @@ static void single_moves_all(void)
         single_move(&single_moves[i]);
 }
 
-/* A curve that is 0 below `first`, `middle` from there, and 765 from `second`. */
-static void curve_of_levels(uint32_t first, uint32_t middle, uint32_t second, uint8_t *curve)
+/* Sets every entry from that of `first` on. */
+static void curve_from(uint32_t first, uint32_t entry, uint8_t *curve)
 {
-    for (uint32_t s = 0; s < EXACT_SUMS; s++)
-        curve_set(curve, s, s < first ? 0 : s < second ? middle : EXACT_WHITE);
+    for (uint32_t s = first; s < EXACT_SUMS; s++)
+        curve_set(curve, s, entry);
 }
 
-/* "One pixel of sum 300 and one of 600: the cube curve is 0 up to 299, 382 for 300 to 599, 765 from 600; equalised, 383". */
-static void two_pixels(uint32_t choice, uint32_t middle)
+/* The curve of pixels of one sum: 0 below it, `own` at it, 765 above. */
+static void curve_of_one_sum(uint32_t sum, uint32_t own, uint8_t *curve)
+{
+    curve_from(0, 0, curve);
+    curve_from(sum, own, curve);
+    curve_from(sum + 1, EXACT_WHITE, curve);
+}
+
+/*
+ * "In 01's case of sums 300 and 600 the cube entries become 293 at 300, 382 from 301 to 599, 472 at 600 and 765 from 601; the
+ * equalised ones at 300 and 600 become 191 and 574." Between them document 01's 383 stays.
+ */
+static void two_pixels(uint32_t choice, uint32_t at_300, uint32_t between, uint32_t at_600)
 {
     const uint8_t strip[] = {50, 100, 150, 255, 145, 200};
     uint8_t curve[EXACT_CURVE_LENGTH];
     struct curve_call call = {strip, sizeof strip, choice, sizeof curve};
     running("sums 300 and 600, choice %u", (unsigned)choice);
-    curve_of_levels(300, middle, 600, curve);
+    curve_from(0, 0, curve);
+    curve_from(300, at_300, curve);
+    curve_from(301, between, curve);
+    curve_from(600, at_600, curve);
+    curve_from(601, EXACT_WHITE, curve);
     try_curve(&call, 0, curve);
 }
 
-/* "All pixels of sum 300: entries 0 up to 299, 765 from 300." */
-static void all_of_sum_300(uint32_t choice)
+/* "In 01's flat case the cube entry at 300 becomes 382, with 765 from 301." Equalised, that entry is 765 / 2, halves up. */
+static void all_of_sum_300(uint32_t choice, uint32_t own)
 {
     const uint8_t strip[] = {100, 100, 100, 45, 0, 255, 200, 99, 1};
     uint8_t curve[EXACT_CURVE_LENGTH];
     struct curve_call call = {strip, sizeof strip, choice, sizeof curve};
     running("all pixels of sum 300, choice %u", (unsigned)choice);
-    curve_of_levels(300, 765, 300, curve);
+    curve_of_one_sum(300, own, curve);
     try_curve(&call, 0, curve);
 }
 
-/* "Length 3 is measured, 4 refused 2." */
+/* "Length 3 is measured, 4 refused 2." The curve is that of a pixel of sum 6. */
 static void lengths_3_and_4(void)
 {
     const uint8_t strip[] = {1, 2, 3, 4};
     uint8_t curve[EXACT_CURVE_LENGTH];
     struct curve_call three = {strip, 3, 1, sizeof curve}, four = {strip, 4, 1, sizeof curve};
     running("lengths 3 and 4");
-    curve_of_levels(6, 765, 6, curve);
+    curve_of_one_sum(6, 382, curve);
     try_curve(&three, 0, curve);
     try_curve(&four, 2, NULL);
 }
@@ -129,10 +144,10 @@ static void pixel_limit(void)
     strip_free(&strip);
 }
 
-/* "`balance`": cube curve, method 2. */
+/* "`balance` now writes 98 three times and 157 three times": cube curve, method 2. */
 static void balance_example(void)
 {
-    const uint8_t frame[] = {100, 100, 100, 200, 200, 200}, balanced[] = {127, 127, 127, 255, 255, 255};
+    const uint8_t frame[] = {100, 100, 100, 200, 200, 200}, balanced[] = {98, 98, 98, 157, 157, 157};
     uint8_t curve[EXACT_CURVE_LENGTH];
     struct colour_call call = {curve, sizeof curve, CUBE_BALANCE_YANG_LEE, frame, sizeof frame, sizeof frame};
     running("the two pixels of `balance`");
@@ -154,10 +169,10 @@ void test_frames(void)
     group_begin("reference frames");
     targets();
     single_moves_all();
-    two_pixels(1, 382);
-    two_pixels(2, 383);
-    all_of_sum_300(1);
-    all_of_sum_300(2);
+    two_pixels(1, 293, 382, 472);
+    two_pixels(2, 191, 383, 574);
+    all_of_sum_300(1, 382);
+    all_of_sum_300(2, 383);
     lengths_3_and_4();
     balance_example();
     group_end();

@@ -1,5 +1,5 @@
 /*
- * The host's test program: the two calls of include/cube_balance.h against document 01.
+ * The host's test program: the two calls of include/cube_balance.h against document 01, with document 02's rule for the curve.
  *
  *     main [SEED]
  *

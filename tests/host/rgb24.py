@@ -88,10 +88,10 @@ def expect_balanced(case, arguments, frames, choice, method):
 
 
 def frames_of_document_01():
-    """The two pixels of `balance`, written out."""
+    """The two pixels of `balance`, written out as document 02 has them."""
     status, out, _ = run(["2", "1"], bytes([100, 100, 100, 200, 200, 200]))
     expect("the two pixels of `balance`", "exit status", 0, status)
-    expect("the two pixels of `balance`", "output", bytes([127, 127, 127, 255, 255, 255]), out)
+    expect("the two pixels of `balance`", "output", bytes([98, 98, 98, 157, 157, 157]), out)
 
 
 def good_runs():

@@ -76,14 +76,14 @@ line 9 is no call: no such call
 0
 0
 0
-0 7f7f7fffffff
+0 6262629d9d9d
 1
 0
 0
 0
 1
 8 -
-0 808080ffffff
+0 404040bfbfbf
 0 -
 6 ab
 7 000000
@@ -91,7 +91,7 @@ line 9 is no call: no such call
 9 000000
 """
 # What the dial writes, in figures. Beside each colouring stands the full balance where it shows the entry.
-DIAL = b"""# one of 511 pixels has intensity 3, whose equalised entry is 1: a balance is rounded before it is mixed
+DIAL = b"""# two of 511 pixels have intensity 3, whose equalised entry is 1: a balance is rounded before it is mixed
 measure 1 %s
 fix 1 2
 colour 1 1 mix 3f800000 030000 ffffff
@@ -127,10 +127,10 @@ colour 1 2 hold 443f4000 6496c8000000ffffff 010101010101010101
 """ % tuple(
     shown(strip)
     for strip in (
-        bytes((1, 1, 1)) + bytes((200, 200, 200)) * 510,
-        bytes((21, 41, 64)) * 39 + bytes((200, 200, 200)) * 19,
-        bytes((67, 156, 174)) * 7 + bytes((200, 200, 200)) * 15,
-        bytes((0, 1, 1)) * 4 + bytes((200, 200, 200)) * 17,
+        bytes((1, 1, 1)) * 2 + bytes((200, 200, 200)) * 509,
+        bytes(3) * 19 + bytes((21, 41, 64)) + bytes((200, 200, 200)) * 9,
+        bytes((67, 156, 174)) * 7 + bytes((200, 200, 200)) * 4,
+        bytes((0, 1, 1)) * 8 + bytes((200, 200, 200)) * 13,
     )
 )
 DIAL_ANSWERED = b"""0
@@ -353,16 +353,16 @@ def limits():
 # ---- Ties and halves ----
 
 # numbers of pixels with their ties, as tests/host/ties.c has them
-TIED = (2, 1), (4, 1), (10, 1), (1000, 1), (144500, 3), (176868, 3), (221085, 2), (260100, 3), (433500, 5), (884340, 9)
-TIED += ((11054250, 85),)
+TIED = (1, 1), (2, 1), (3, 1), (10, 1), (1000, 1), (72250, 3), (144500, 3), (221085, 3), (442170, 9), (614125, 9), (884340, 9)
+TIED += (736950, 17), (2210850, 51), (11054250, 255)
 
 
 def tied(pixels):
-    """The k that are as far as k + 1 for some H among so many pixels, each with its H."""
+    """The k that are as far as k + 1 for some H(s) + H(s − 1) among so many pixels, each with that number."""
     for k in range(765):
-        at_most, left = divmod(pixels * (exact.TARGETS[k] + exact.TARGETS[k + 1]), 2 * exact.TARGETS[765])
+        part, left = divmod(pixels * (exact.TARGETS[k] + exact.TARGETS[k + 1]), exact.TARGETS[765])
         if left == 0:
-            yield k, at_most
+            yield k, part
 
 
 def telling(rng, s, low, high):
@@ -396,27 +396,38 @@ def measured(shot, pixel, count):
     yield Line(b"measure %d %s" % (shot, shown(bytes(pixel) * rest)), 0)
 
 
+def layout(rng, parts, pixels):
+    """H(s − 1) and H(s) for each number H(s) + H(s − 1), rising and within so many pixels; of a tone's own pixels few or many."""
+    so_far = 0
+    for part, following in zip(parts, [*parts[1:], 2 * pixels]):
+        # so that the next number can come too
+        below = rng.choice((part // 2, rng.randint(max(so_far, part - following // 2), part // 2)))
+        so_far = part - below
+        yield below, so_far
+
+
 def cube_ties(rng, pixels, expected, aside):
-    """A shot whose H is a tie at as many intensities as there are ties, or by `aside` pixels beside each."""
+    """A shot whose H(s) + H(s − 1) is a tie at as many intensities as there are ties, or by `aside`, the least step, beside each."""
     found = list(tied(pixels))
     if len(found) != expected:
         raise ValueError(f"{pixels} pixels have {len(found)} ties, not {expected}")
     places = [20 + i * 700 // len(found) for i in range(len(found))]
     so_far = 0
     yield Line(b"open 1", 0)
-    for s, (_, at_most) in zip(places, found):
-        yield from measured(1, pixel_of(rng, s), at_most + aside - so_far)
-        so_far = at_most + aside
+    for s, (below, at_most) in zip(places, layout(rng, [part + aside for _, part in found], pixels)):
+        yield from measured(1, pixel_of(rng, s - 1), below - so_far)
+        yield from measured(1, pixel_of(rng, s), at_most - below)
+        so_far = at_most
     yield from measured(1, pixel_of(rng, 764), pixels - so_far)
     yield Line(b"fix 1 1", 0)
     yield from colouring(rng, 1, [(s, k, k + 1) for s, (k, _) in zip(places, found)])
 
 
 def halves(rng, times):
-    """765 × H / N is a half at every intensity from 1 to 764: H(s) = (2s + 1) × times among 1530 × times pixels."""
+    """765 × (H(s) + H(s − 1)) / (2 × N) is a half at every intensity from 1 to 764: as many pixels of each from 0 to 764."""
     yield Line(b"open 2", 0)
-    for s in range(766):
-        yield from measured(2, pixel_of(rng, s), times if s in (0, 765) else 2 * times)
+    for s in range(765):
+        yield from measured(2, pixel_of(rng, s), times)
     yield Line(b"fix 2 2", 0)
     yield from colouring(rng, 2, [(s, s, s + 1) for s in range(1, 765)])
 

@@ -3,11 +3,11 @@
 from kept import COPY, DIFFERENCE, FORM, FULL, HOLD, INTENSITY, MIX, OFF, ORDER, PAIR, RULES, STAY, UNTOUCHED
 from kept import Setting, Spread, Unfit, broken, pixel_faults, setting
 
-# The first shot has intensities 60, 300, 600 and 765 and is equalised: 60 to 299 go to 191, 300 to 599 to 383. The second has 60
+# The first shot has intensities 59, 299, 599 and 765 and is equalised: 60 to 298 go to 191, 300 to 598 to 383. The second has 59
 # alone. 3f800000 is 1, the full balance, 3f000000 a half, 3f400000 three quarters, 43960000 the held value 300.
 SCRIPT = b"""open 1
-measure 1 0a0a28646464
-measure 1 c8c8c8ffffff
+measure 1 0a0a27646463
+measure 1 c8c8c7ffffff
 fix 1 2
 colour 1 1 mix 3f800000 0a0a28646464000000 010101010101010101
 repeat 2 colour 1 2 mix 3f800000 0a0a29 000000
@@ -25,10 +25,10 @@ colour 1 2 hold nan 0a0a28 030201 # refused by 18
 frob
 repeat 0 open 1
 open 1
-measure 1 0a0a28
+measure 1 0a0a27
 fix 1 1
 colour 1 1 mix 3f800000 - -
-colour 1 1 mix 3f800000 0a0a280a0a27 000000000000
+colour 1 1 mix 3f800000 0a0a280a0a26 000000000000
 move 1 6496c8 300
 move 2 ffffff 0
 """

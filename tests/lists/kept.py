@@ -172,7 +172,7 @@ class Shot:
         if s in (0, 765):
             return s
         choice, at_most = self.curve
-        return entry(choice, at_most[765], at_most[s])
+        return entry(choice, at_most[765], at_most[s - 1], at_most[s])
 
     def faults(self):
         """Pairs of pixels that break the rule; none is compared with one under another setting."""

@@ -47,7 +47,7 @@ def flat(rng):
 
 
 def two_toned(rng):
-    """Half of it dark: the cube's entry is a tie, and the equalised one a half."""
+    """Half of it dark: between the two tones the cube's entry is a tie, and the equalised one a half."""
     dark, bright = sorted(rng.sample(range(766), 2))
     half = rng.randint(1, 6)
     return [pixel_of(rng, s) for s in half * [dark] + (half + rng.choice((0, 0, 0, 1))) * [bright]]

@@ -211,7 +211,7 @@ class Shot:
         if s in (0, 765):
             return s
         choice, at_most = self.curve
-        return entry(choice, self.pixels, at_most[s])
+        return entry(choice, self.pixels, at_most[s - 1], at_most[s])
 
     def colour(self, method, dial, source, destination):
         """The number, and what the destination then holds."""

@@ -63,11 +63,11 @@ extern "C" {
 /*
  * The version. MAJOR goes up where a call gives another result for an input that was accepted, or where a program has to be changed;
  * MINOR where something is added, as inputs that are no longer refused; PATCH where neither, as for speed or words. CHANGES.md in the
- * sources says which results change. A program that depends on exact bytes can test it: #if CUBE_BALANCE_VERSION_MAJOR != 2. No call
+ * sources says which results change. A program that depends on exact bytes can test it: #if CUBE_BALANCE_VERSION_MAJOR != 3. No call
  * hands a version back, so keep this header with the library that bin/library built beside it.
  */
-#define CUBE_BALANCE_VERSION_MAJOR 2
-#define CUBE_BALANCE_VERSION_MINOR 1
+#define CUBE_BALANCE_VERSION_MAJOR 3
+#define CUBE_BALANCE_VERSION_MINOR 0
 #define CUBE_BALANCE_VERSION_PATCH 0
 
 /* The bytes of a curve, and the most pixels of which cube_balance_curve makes one. (Colouring has no such limit.) */
@@ -97,7 +97,8 @@ extern "C" {
 #define CUBE_BALANCE_CURVE_RULE_BROKEN 11  /* the curve's entries break the rule above */
 
 /*
- * Writes the tone curve of the strip, taken as a whole shot, into `curve`.
+ * Writes the tone curve of the strip, taken as a whole shot, into `curve`. The entry for an intensity, but for 0 and 765, is made from
+ * the share of the pixels that are darker and half of those that have it.
  * Checked in this order: 4, 10, 2, 5, 3.
  */
 uint32_t cube_balance_curve(const uint8_t *strip, size_t strip_length,

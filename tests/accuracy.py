@@ -436,7 +436,8 @@ def main():
     tables = [figures.table(rows), list(portrait.skin_tone()), list(portrait.by_each_method()), list(two_below())]
     tables.append(list(delivery.table(portrait.balanced, portrait.columns)))
     tables += [list(commands(full, mix_)), list(worst_mixes(mixes, mix_[0])), list(portrait.half_strength(mix_)), list(four_below(most_below()))]
-    sentences = [*portrait.sentences(), *portrait.brightest_sentences(), *other_sentences(), *portrait.dial_sentences(mix_), *mix_sentences(mixes, mix_)]
+    sentences = [*portrait.sentences(), *portrait.brightest_sentences(), *other_sentences()]
+    sentences += [*portrait.dial_sentences(mix_), *mix_sentences(mixes, mix_)]
     if sys.argv[1:] == ["print"]:
         print("\n\n".join(["\n".join(table) for table in tables] + sentences))
         return

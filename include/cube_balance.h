@@ -98,7 +98,8 @@ extern "C" {
 
 /*
  * Writes the tone curve of the strip, taken as a whole shot, into `curve`. The entry for an intensity, but for 0 and 765, is made from
- * the share of the pixels that are darker and half of those that have it.
+ * two parts of all pixels: all that are darker, and half of those that have the intensity itself. A curve's bytes do not say which
+ * version made them.
  * Checked in this order: 4, 10, 2, 5, 3.
  */
 uint32_t cube_balance_curve(const uint8_t *strip, size_t strip_length,

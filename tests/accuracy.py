@@ -14,6 +14,7 @@ import re
 import struct
 import subprocess
 import sys
+from collections import Counter
 from fractions import Fraction
 
 import delivery
@@ -26,7 +27,7 @@ import mix  # noqa: E402
 
 DOC = pathlib.Path("docs/ACCURACY.md")
 CRATES = pathlib.Path("crates")
-PICTURE = pathlib.Path("samples/portrait.ppm")
+PICTURE, WALL = pathlib.Path("samples/portrait.ppm"), pathlib.Path("samples/wall.ppm")
 # two pixels of the picture, of one hue
 SKIN = 49, 34, 24
 DARKER = 27, 21, 17
@@ -150,15 +151,16 @@ class Portrait:
     def sentences(self):
         """What the text says of the two skin tones."""
         other, at = self.balanced[self.pixels.index(DARKER)], self.written
-        off = apart(at, other)
-        assert hue(DARKER) == hue(SKIN) and width(at) < off < width(at) + width(other)
+        off, both = apart(at, other), width(at) + width(other)
+        assert hue(DARKER) == hue(SKIN) and width(at) < off < both
         yield (
             f"So a key from {places(hue(SKIN) - width(at), 2)}° to {places(hue(SKIN) + width(at), 2)}° "
             f"catches every pixel of hue {float(hue(SKIN)):g}° that is written with a chroma of {chroma(at)} or more."
         )
         yield (
             f"{numbers(DARKER)}, of the same {float(hue(SKIN)):g}°, is written as {numbers(other)}, {places(hue(other))}°: "
-            f"{places(off)}° from the pixel of the table. A key that was sampled there and opened by {places(width(at))}° alone would lose it."
+            f"{places(off)}° from the pixel of the table. A key that was sampled there and opened by {places(width(at))}° alone would lose it; "
+            f"step 4 opens it by 60° / {chroma(at)} + 60° / {chroma(other)} = {places(both)}°."
         )
 
     def brightest_sentences(self):
@@ -174,12 +176,15 @@ class Portrait:
             f"In the portrait {sums.count(s)} of {len(sums):,} pixels have its greatest intensity, {s}. They get the entry {self.curve[s]} "
             f"and are written as {numbers(written)}."
         )
-        yield f"Where all pixels are alike they get {entry(1, 1, 0, 1)} by the cube, and {entry(2, 1, 0, 1)} equalised."
+        # flat shots of each grey, black first and white last
+        flat = [[curve_of(bytes(3 * [c]), choice)[3 * c] for c in range(256)] for choice in (1, 2)]
+        assert all(entries[0] == 0 and entries[255] == 765 for entries in flat)
+        (one,), (two,) = (set(entries[1:255]) for entries in flat)
+        yield f"Where all pixels are alike, but neither black nor white, they get {one} by the cube, and {two} equalised."
         # the fewest of all, and the edge of the equalised curve, which rounds
         assert entry(1, MOST_PIXELS, MOST_PIXELS - 1, MOST_PIXELS) == 764
         assert [entry(2, 7 * n, 7 * n - 7, 7 * n) for n in (764, 765)] == [764, 765]
         yield "the cube's curve never has 765 for them, and the equalised one has it where they are a 765th of all pixels or fewer"
-
 
     def half_strength(self, tolerance):
         """The same under a mix: a row to a step."""
@@ -230,6 +235,17 @@ class Portrait:
             f"{chroma(held)}, and its hue {places(hue(held))}°: it has moved by {places(apart(held, SKIN))}°, where less than "
             f"60° / {chroma(held)} = {places(width(held))}° is proved."
         )
+
+
+def wall_sentence():
+    """What the text says of the entries beside an intensity that many pixels have."""
+    source = samples(WALL.read_bytes())[1]
+    curve, sums = curve_of(source, 1), [sum(pixel) for pixel in pixels_of(source)]
+    s, count = Counter(sums).most_common(1)[0]
+    return (
+        f"In `{WALL}` {float(100 * Fraction(count, len(sums))):.1f} % of the pixels have the intensity {s}, and the cube's curve has "
+        f"{curve[s - 1]} for {s - 1}, {curve[s]} for {s}, and {curve[s + 1]} for {s + 1}."
+    )
 
 
 def two_below():
@@ -436,7 +452,7 @@ def main():
     tables = [figures.table(rows), list(portrait.skin_tone()), list(portrait.by_each_method()), list(two_below())]
     tables.append(list(delivery.table(portrait.balanced, portrait.columns)))
     tables += [list(commands(full, mix_)), list(worst_mixes(mixes, mix_[0])), list(portrait.half_strength(mix_)), list(four_below(most_below()))]
-    sentences = [*portrait.sentences(), *portrait.brightest_sentences(), *other_sentences()]
+    sentences = [*portrait.sentences(), *portrait.brightest_sentences(), wall_sentence(), *other_sentences()]
     sentences += [*portrait.dial_sentences(mix_), *mix_sentences(mixes, mix_)]
     if sys.argv[1:] == ["print"]:
         print("\n\n".join(["\n".join(table) for table in tables] + sentences))

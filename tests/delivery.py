@@ -98,7 +98,7 @@ def largest_move(before, after):
 
 def table(pixels, columns):
     """A row to a format, for docs/ACCURACY.md."""
-    yield f"| format | pixels whose hue is beyond the width | largest move at a chroma of {LEAST_CHROMA} or more |"
+    yield f"| format | pixels whose hue is beyond the width | largest move where both have a chroma of {LEAST_CHROMA} or more |"
     yield "|---|---|---|"
     for form in FORMATS:
         after = delivered(pixels, columns, form)

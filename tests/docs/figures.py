@@ -144,7 +144,7 @@ def mix_sentences(steps, over, under, below, degrees):
 def delivery_sentences():
     """What README.md says of the costliest format of docs/ACCURACY.md's table."""
     form, share, _ = table(ACCURACY, ["format"]).rows[0]
-    yield README, f"{form} alone moves hue beyond the widths above in [{share} of the sample's pixels]"
+    yield README, f"{form} alone moves hue beyond the widths above in [{share} of the portrait's pixels]"
 
 
 def test_sentences():

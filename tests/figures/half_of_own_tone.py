@@ -17,7 +17,7 @@ import png
 from panels import FIGURES, GAP, ROOT, SAMPLES, WHITE, balanced, samples, side_by_side
 
 sys.path.insert(0, str(ROOT / "tests"))
-from exact import TARGETS, curve_of, moved, pixels_of  # noqa: E402
+from exact import curve_of, entry, moved, pixels_of  # noqa: E402
 
 FIGURE = FIGURES / "half_of_own_tone.png"
 PAGE = ROOT / "CHANGES.md"
@@ -32,17 +32,11 @@ def tally(source):
     return collections.Counter(map(sum, pixels_of(source)))
 
 
-def entry_before(pixels, at_most):
-    """What the cube's entry was for an intensity that `at_most` of the pixels have at most."""
-    return min(range(766), key=lambda k: abs(pixels * TARGETS[k] - TARGETS[765] * at_most))
-
-
 def curve_before(source):
-    """What the cube's curve of a shot was."""
+    """What the cube's curve of a shot was: (H(s) + H(s − 1)) / (2 × N) is H(s) / N where H(s) stands for H(s − 1) too."""
     counts = tally(source)
     at_most = list(accumulate(counts[s] for s in range(766)))
-    entries = {h: entry_before(at_most[765], h) for h in set(at_most)}
-    return [0] + [entries[h] for h in at_most[1:765]] + [765]
+    return [0] + [entry(CUBE, at_most[765], h, h) for h in at_most[1:765]] + [765]
 
 
 def balanced_before(source):

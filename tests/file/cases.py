@@ -347,7 +347,7 @@ def moves():
     colour's entry."""
     for name, line, colour, b, n, m, written in (
         ("dark_to_255", "s at most 255, f at most 255", DARK, 0, 1, 2, [43, 85, 128]),
-        ("dark_to_382", "s at most 255, f above 255", DARK, 0, 3, 0, [95, 127, 159]),
+        ("dark_to_382", "s at most 255, f above 255", DARK, 2, 1, 2, [95, 127, 159]),
         ("sum_255_to_382", "s at most 255, f above 255", [255, 0, 0], 1, 1, 1, [255, 63, 63]),
         ("sum_256_to_382", "s from 256 to 510: as method 1", [255, 1, 0], 1, 2, 1, [255, 64, 63]),
         ("middle_to_255", "s from 256 to 510: as method 1", MIDDLE, 0, 2, 4, [43, 85, 128]),

@@ -130,6 +130,17 @@ static void lengths_3_and_4(void)
     try_curve(&four, 2, NULL);
 }
 
+/* As many pixels as there can be, all of one sum: half of them count as below it. */
+static void large_tone(void)
+{
+    struct strip strip = strip_of_sums(300, 300, EXACT_MOST_PIXELS);
+    for (uint32_t choice = 1; choice <= 2; choice++) {
+        running("16,777,216 pixels of sum 300, choice %u", (unsigned)choice);
+        compare_curve(strip.bytes, strip.length, choice, NULL);
+    }
+    strip_free(&strip);
+}
+
 /* "From N = 16,777,215 one more pixel is measured, two are refused 3": the host's strip is the whole shot. */
 static void pixel_limit(void)
 {
@@ -179,5 +190,6 @@ void test_frames(void)
 
     group_begin("pixel limit");
     pixel_limit();
+    large_tone();
     group_end();
 }

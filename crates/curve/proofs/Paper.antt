@@ -10,7 +10,7 @@ use Rattle.targets.specs.Paper.{area}
 use Rattle.targets.proofs.Laws.{targets_are_right}
 use Rattle.curve.specs.Curve.{share_count, full_count, previous, cube_entry, equalised_entry, by_choice, entry}
 use Rattle.curve.specs.Nearest.{distance}
-use Rattle.curve.specs.Paper.{mean_count, apart, equation5, equation14, EntriesAreThePapers}
+use Rattle.curve.specs.Paper.{mean_count, apart, equation5, equation14, EntriesFollowThePaper}
 use Rattle.curve.specs.declared.Choice.{Choice}
 use Rattle.curve.specs.declared.Choice.TheVariants.{Cube, Equalised}
 use Rattle.curve.proofs.Curve.{cube_nearest, ends_inner}
@@ -128,10 +128,11 @@ cube_first n h j l =
     strictly_kept (equation14_times n h (cube_entry (2 * n) h) (cube_nearest (2 * n) h).within)
     (equation14_times n h j (le_trans (le_of_lt l) (cube_nearest (2 * n) h).within)) ((cube_nearest (2 * n) h).first j l)
 
-pub entries_are_the_papers : EntriesAreThePapers
-entries_are_the_papers =
+pub entries_follow_the_paper : EntriesFollowThePaper
+entries_follow_the_paper =
     record {
       share = λ N H s some. omega arith;
+      first_share = λ N H some. omega arith;
       equalised = λ N H s some h l. sym (entry_is Equalised N H s h l) ∙ equalised_is N (H s + previous H s);
       within = λ N H s h l.
           subst (λ (k : ℕ). k ≤ 765) (entry_is Cube N H s h l) (cube_nearest (2 * N) (H s + previous H s)).within;

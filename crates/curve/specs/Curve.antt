@@ -9,14 +9,14 @@ use Rattle.curve.specs.Nearest.{nearest_place}
 use Rattle.curve.specs.declared.Choice.{Choice}
 use Rattle.curve.specs.declared.Choice.TheVariants.{Cube, Equalised}
 
--- The share of the pixels that the entry for an intensity s is made from: "wherever the curves used H(s) / N they now use (H(s) +
--- H(s − 1)) / (2 × N)" (document 02, wish 3), so an intensity counts half of its own pixels as below it. It is two counts,
--- `share_count below upto` over `full_count N`, where `below` pixels have a smaller intensity and `upto` have one of at most s. Source 004
--- has H(s) / N; specs/Paper.antt says what that leaves of its equations.
+-- The share of the pixels that the entry for an intensity s is made from, the house's: "wherever the curves used H(s) / N they now use
+-- (H(s) + H(s − 1)) / (2 × N)" (document 02, wish 3). It is held as two whole numbers, `share_count below upto` out of `full_count N`,
+-- where `below` pixels have a smaller intensity and `upto` have one of at most s: a pixel below counts 2, and one of the intensity itself 1.
+-- Source 004 has H(s) / N; specs/Paper.antt says what is left of its equations.
 unfoldable pub share_count : ℕ → ℕ → ℕ
 share_count below upto = upto + below
 
--- What all N pixels count.
+-- What all N pixels count, 2 each.
 unfoldable pub full_count : ℕ → ℕ
 full_count N = 2 * N
 

@@ -22,6 +22,6 @@ unfoldable pub nearest_place : (ℕ → ℕ) → ℕ → ℕ → ℕ
 nearest_place g zero aim = 0
 nearest_place g (suc n) aim = nearer g aim (suc n) (nearest_place g n aim)
 
--- Claim: nearestPlace g n aim is that place, and the only one. Proved: proofs/Nearest.antt, `nearest_means`.
+-- Claim: nearest_place g n aim is that place, and the only one. Proved: proofs/Nearest.antt, `nearest_means`.
 abbrev pub NearestMeans : Type 0
 NearestMeans = (g : ℕ → ℕ) (n aim k : ℕ) → Nearest g n aim k ↔ (k ≡ nearest_place g n aim)

@@ -124,7 +124,7 @@ fn share_count(below: u64, upto: u64) -> u64
     upto + below
 }
 
-// What all pixels count: each twice.
+// What all pixels count, 2 each.
 #[tactic(auto, unfolding(crate::specs::Curve::full_count))]
 fn full_count(pixels: u32) -> u64
     requires { pixels ≤ 2 ^ 31 }

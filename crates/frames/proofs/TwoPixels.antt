@@ -28,13 +28,21 @@ level a b c (suc (suc zero)) = b
 level a b c (suc (suc (suc zero))) = c
 level a b c (suc (suc (suc (suc h)))) = 765
 
--- by each choice
-abbrev level_by : Choice → ℕ → ℕ
-level_by Cube = level 293 382 472
-level_by Equalised = level 191 383 574
+-- those for one, two and three, by each choice
+abbrev low : Choice → ℕ
+low Cube = 293
+low Equalised = 191
+
+abbrev middle : Choice → ℕ
+middle Cube = 382
+middle Equalised = 383
+
+abbrev high : Choice → ℕ
+high Cube = 472
+high Equalised = 574
 
 -- that is the entry
-level_is : (choice : Choice) (h : ℕ) → h ≤ 4 → by_choice choice 4 h ≡ level_by choice h
+level_is : (choice : Choice) (h : ℕ) → h ≤ 4 → by_choice choice 4 h ≡ level (low choice) (middle choice) (high choice) h
 unfolding cube_entry nearest_place nearer G equalised_entry near
 level_is Cube zero l = refl
 level_is Cube (suc zero) l = refl
@@ -63,11 +71,11 @@ one_at_most : (b : Bool) → cond b 1 0 ≤ 1
 one_at_most true = omega arith
 one_at_most false = omega arith
 
--- so two count twice
+-- so two count twice at most
 two_at_most : (i j s : ℕ) → up_to (i ∷ j ∷ []) s ≤ 2
 two_at_most i j s = omega (arith, one_at_most (leb i s), one_at_most (leb j s))
 
--- and those before an intensity do too
+-- and so they do before an intensity
 two_before : (i j s : ℕ) → previous (up_to (i ∷ j ∷ [])) s ≤ 2
 two_before i j zero = zero-le
 two_before i j (suc s) = two_at_most i j s
@@ -88,19 +96,9 @@ pub falling_levels : AreLevels (600 ∷ 300 ∷ [])
 unfolding tabulate with_ends five_levels
 falling_levels a b c = refl
 
--- the entries by each choice
-abbrev levels_by : Choice → List ℕ
-levels_by Cube = five_levels 293 382 472
-levels_by Equalised = five_levels 191 383 574
-
-are_levels_by : (choice : Choice) (intensities : List ℕ) → AreLevels intensities
-    → tabulate (with_ends (λ s. level_by choice (counted intensities s))) 766 ≡ levels_by choice
-are_levels_by Cube intensities levels = levels 293 382 472
-are_levels_by Equalised intensities levels = levels 191 383 574
-
 -- the curve, by each choice
 pub two_pixel_curve : (choice : Choice) (i j : ℕ) → AreLevels (i ∷ j ∷ []) → (ps : List Pixel) → map intensity ps ≡ i ∷ j ∷ []
-    → tone_curve choice (length ps) (count_up_to ps) ≡ levels_by choice
+    → tone_curve choice (length ps) (count_up_to ps) ≡ five_levels (low choice) (middle choice) (high choice)
 unfolding tone_curve entry with_ends share_count full_count
 two_pixel_curve choice i j levels ps same =
     let both = i ∷ j ∷ [] in
@@ -108,6 +106,6 @@ two_pixel_curve choice i j levels ps same =
     rw two
     (tone_curve_same choice 2 (count_up_to ps) (up_to both)
     (λ s _. count_reads ps s ∙ ap (λ (l : List ℕ). up_to l s) same)
-    ∙ tabulate_same (entry choice 2 (up_to both)) (with_ends (λ s. level_by choice (counted both s))) 766
+    ∙ tabulate_same (entry choice 2 (up_to both)) (with_ends (λ s. level (low choice) (middle choice) (high choice) (counted both s))) 766
     (λ s _. rw (level_is choice (counted both s) (omega (arith, two_at_most i j s, two_before i j s))))
-    ∙ are_levels_by choice both levels)
+    ∙ levels (low choice) (middle choice) (high choice))

@@ -26,6 +26,8 @@ examples =
     (two_greys 100 200 gives two_greys 98 157)
     -- by method 2: method 1 would give other samples
     ∷ (two_pixels ++ (10 ∷ 20 ∷ 30 ∷ 255 ∷ 255 ∷ 255 ∷ []) gives two_pixels ++ (58 ∷ 98 ∷ 137 ∷ 255 ∷ 255 ∷ 255 ∷ []))
+    -- the darker pixels of an intensity's share, black ones too: (0, 0, 1) has 3 / 4, and the entry 472
+    ∷ (two_pixels ++ (0 ∷ 0 ∷ 0 ∷ 0 ∷ 0 ∷ 1 ∷ []) gives two_pixels ++ (0 ∷ 0 ∷ 0 ∷ 108 ∷ 108 ∷ 255 ∷ []))
     -- the header is written without leading zeros
     ∷ (ascii "P6 002 01 0255 " ++ replicate 3 100 ++ replicate 3 200 gives two_greys 98 157)
     -- and without comments

@@ -17,7 +17,7 @@ run = replicate 1532 9
 abbrev pub curve_call : List ℕ → ℕ → List ℕ → CurveCall
 curve_call strip choice lent = record { strip = strip; choice = choice; curve = lent }
 
--- (curveCall uneven 3 []) breaks 4, 10 and 2.
+-- (curve_call uneven 3 []) breaks 4, 10 and 2.
 unfoldable pub curve_calls : List CurveCall
 curve_calls =
     curve_call uneven 3 []
@@ -50,7 +50,7 @@ abbrev pub colour_call : List ℕ → ℕ → List ℕ → List ℕ → ColourCa
 colour_call curve method source destination =
     record { curve = curve; method = method; source = source; destination = destination }
 
--- (colourCall one 3 uneven one) breaks every rule: 10, 11, 7, 2 and 8. The last call is lent a curve that a curve call wrote.
+-- (colour_call one 3 uneven one) breaks every rule: 10, 11, 7, 2 and 8. The last call is lent a curve that a curve call wrote.
 unfoldable pub colour_calls : List ColourCall
 colour_calls =
     colour_call one 3 uneven one

@@ -159,8 +159,8 @@ class Portrait:
         )
         yield (
             f"{numbers(DARKER)}, of the same {float(hue(SKIN)):g}°, is written as {numbers(other)}, {places(hue(other))}°: "
-            f"{places(off)}° from the pixel of the table. A key that was sampled there and opened by {places(width(at))}° alone would lose it; "
-            f"step 4 opens it by 60° / {chroma(at)} + 60° / {chroma(other)} = {places(both)}°."
+            f"{places(off)}° from the pixel of the table. A key that was sampled there and opened by {places(width(at))}° alone would lose "
+            f"it; step 4 opens it by 60° / {chroma(at)} + 60° / {chroma(other)} = {places(both)}°."
         )
 
     def brightest_sentences(self):

@@ -1,6 +1,6 @@
 -- The curves of one pixel of intensity 300 and one of 600, by both choices.
 use mathlib.Core.Path.{◌≡◌, refl, sym, ap, ◌∙◌}
-use mathlib.Core.Bool.{Bool, true, false, cond}
+use mathlib.Core.Bool.{cond}
 use mathlib.Core.List.{List, [], ◌∷◌, map}
 use Prim.Native.Nat.{ℕ, zero, suc, ◌+◌, ◌≤◌, zero-le}
 use native.Mathlib.Omega.{arith}
@@ -18,6 +18,7 @@ use Rattle.curve.specs.declared.Choice.{Choice}
 use Rattle.curve.specs.declared.Choice.TheVariants.{Cube, Equalised}
 use Rattle.curve.proofs.Curve.{tone_curve_same}
 use Rattle.measuring.specs.Histogram.{count_up_to}
+use Rattle.measuring.proofs.Counts.{count_le}
 use Rattle.frames.specs.Starred.{five_levels}
 
 -- the entry for a share of h in four, where a, b and c are those for one, two and three
@@ -66,19 +67,10 @@ count_reads : (ps : List Pixel) (s : ℕ) → count_up_to ps s ≡ up_to (map in
 count_reads [] s = refl
 count_reads (p ∷ ps) s = ap (λ (n : ℕ). cond (leb (intensity p) s) 1 0 + n) (count_reads ps s)
 
--- one intensity counts once at most
-one_at_most : (b : Bool) → cond b 1 0 ≤ 1
-one_at_most true = omega arith
-one_at_most false = omega arith
-
--- so two count twice at most
-two_at_most : (i j s : ℕ) → up_to (i ∷ j ∷ []) s ≤ 2
-two_at_most i j s = omega (arith, one_at_most (leb i s), one_at_most (leb j s))
-
--- and so they do before an intensity
-two_before : (i j s : ℕ) → previous (up_to (i ∷ j ∷ [])) s ≤ 2
-two_before i j zero = zero-le
-two_before i j (suc s) = two_at_most i j s
+-- what no count exceeds, none before an intensity does
+before_le : (H : ℕ → ℕ) (n : ℕ) → ((s : ℕ) → H s ≤ n) → (s : ℕ) → previous H s ≤ n
+before_le H n le zero = zero-le
+before_le H n le (suc s) = le s
 
 -- what these intensities count for s, half of its own
 abbrev counted : List ℕ → ℕ → ℕ
@@ -103,9 +95,10 @@ unfolding tone_curve entry with_ends share_count full_count
 two_pixel_curve choice i j levels ps same =
     let both = i ∷ j ∷ [] in
     let two : length ps ≡ 2 = sym (length-map ps intensity) ∙ ap length same in
+    let reads : (s : ℕ) → count_up_to ps s ≡ up_to both s = λ s. count_reads ps s ∙ ap (λ (l : List ℕ). up_to l s) same in
+    let most : (s : ℕ) → up_to both s ≤ 2 = λ s. omega (arith, reads s, count_le (λ i. leb i s) ps, two) in
     rw two
-    (tone_curve_same choice 2 (count_up_to ps) (up_to both)
-    (λ s _. count_reads ps s ∙ ap (λ (l : List ℕ). up_to l s) same)
+    (tone_curve_same choice 2 (count_up_to ps) (up_to both) (λ s _. reads s)
     ∙ tabulate_same (entry choice 2 (up_to both)) (with_ends (λ s. level (low choice) (middle choice) (high choice) (counted both s))) 766
-    (λ s _. rw (level_is choice (counted both s) (omega (arith, two_at_most i j s, two_before i j s))))
+    (λ s _. rw (level_is choice (counted both s) (omega (arith, most s, before_le (up_to both) 2 most s))))
     ∙ levels (low choice) (middle choice) (high choice))

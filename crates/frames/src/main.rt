@@ -15,6 +15,9 @@ use shot::Shot;
 // The bytes of a strip with one pixel for each of the 766 intensities.
 const EACH_INTENSITY: usize = 2298;
 
+// Where the pixel of intensity 300 begins in that strip.
+const AT_300: usize = 900;
+
 // The bytes of a strip of 4,095 pixels, and how many such strips have 16,777,215 pixels.
 const LONG_STRIP: usize = 12285;
 
@@ -117,9 +120,9 @@ fn print_flat_shot(rt: &impl Print, choice: u32) {
         fixed.number,
         coloured.number,
         tones.black,
-        destination[900],
-        destination[901],
-        destination[902],
+        destination[AT_300],
+        destination[AT_300 + 1],
+        destination[AT_300 + 2],
         tones.white,
         tones.before
     );

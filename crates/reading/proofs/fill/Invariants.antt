@@ -1,7 +1,7 @@
--- The measure and the invariant of `reading::read_full`: what was read lies within the buffer, and stands at its start.
+-- The measure and the invariant of `reading::fill`: what was read lies within the buffer, and stands at its start.
 use Rattle.std.proofs.Common.{◌-◌, ◌≤◌, length, take}
 use Rattle.std.specs.Io.KnownBytes.{Consumes}
-use Rattle.reading.proofs.read_full.Given as goal
+use Rattle.reading.proofs.fill.Given as goal
 
 abbrev pub invariant-loop-done : goal.invariant-loop-done
 invariant-loop-done g l = record {

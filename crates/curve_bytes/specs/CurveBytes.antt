@@ -1,5 +1,6 @@
 -- A curve at the host's boundary (document 01, "The panel's host"): its bytes, and the rule by which one is accepted.
-use Rattle.std.specs.Prelude.{◌≡◌, Bool, true, ◌&&◌, List, [], ◌∷◌, ℕ, ◌+◌, ◌*◌, ◌/◌, ◌%◌, leb, eqb, length}
+use Rattle.std.specs.Prelude.{◌≡◌, Bool, true, not, ◌&&◌, List, [], ◌∷◌, ℕ, ◌+◌, ◌*◌, ◌/◌, ◌%◌, leb, eqb, length}
+use Rattle.refusal.specs.Refusal.{Check, ◌refuses◌}
 use Rattle.tables.specs.Table.{at}
 use Rattle.pixel.specs.Strip.{Bytes}
 use Rattle.curve.specs.Curve.{IsToneCurve}
@@ -33,6 +34,11 @@ none_falls before (entry ∷ entries) = leb before entry && none_falls entry ent
 -- there is none; no entry is less than 0.)
 unfoldable pub keeps_curve_rule : List ℕ → Bool
 keeps_curve_rule curve = eqb (at curve 0) 0 && eqb (at curve 765) 765 && none_exceeds curve && none_falls 0 curve
+
+-- The checks of a curve that is handed in, 10 and 11. 10: a curve's bytes are not 1,532 long. 11: the curve breaks the rule.
+abbrev pub bytes_checks : List ℕ → List Check
+bytes_checks bytes =
+    not (eqb (length bytes) curve_length) refuses 10 ∷ not (keeps_curve_rule (curve_entries bytes)) refuses 11 ∷ []
 
 -- Claim: 766 entries pass that test exactly if they are a tone curve. Proved: proofs/CurveBytes.antt, `test_is_the_rule`.
 pub record TestIsTheRule : Type 0 where

@@ -1,9 +1,13 @@
 // A curve at the host's boundary (document 01, "The panel's host"): written as bytes, read back, and the rule by which one is accepted.
 #![tactic(auto)]
 
-ghost use Rattle.std.specs.Prelude.{◌≡◌};
-ghost use Rattle.curve_bytes.specs.CurveBytes.{curve_bytes, curve_entries, keeps_curve_rule};
+ghost use Rattle.std.specs.Prelude.{◌≡◌, IfOk};
+ghost use Rattle.refusal.specs.Numbers.{number_in};
+ghost use Rattle.refusal.specs.Refusal.{first_of};
+ghost use Rattle.curve.specs.Curve.{EntriesInRange};
+ghost use Rattle.curve_bytes.specs.CurveBytes.{curve_bytes, curve_entries, keeps_curve_rule, bytes_checks};
 
+use refusal::Refusal;
 use std::array;
 
 // A curve travels as so many bytes.
@@ -36,4 +40,21 @@ pub fn keeps_curve_rule(curve: &[u16; 766]) -> bool
     ensures { result ≡ keeps_curve_rule curve.now }
 {
     curve[0] == 0 && curve[765] == 765 && curve.is_sorted()
+}
+
+// The entries of a curve that a caller hands in as bytes. Refused: 10, 11.
+#[tactic(auto, using(crate::proofs::CurveBytes::accepted_in_range))]
+pub fn accepted_entries(curve: &[u8]) -> Result<[u16; 766], Refusal>
+    ensures number { number_in result ≡ first_of (bytes_checks curve.now) }
+    ensures entries { IfOk result (λ entries. entries ≡ curve_entries curve.now) }
+    ensures in_range { IfOk result EntriesInRange }
+{
+    let Some(curve) = curve.as_array() else {
+        return Err(Refusal::CurveLengthWrong);
+    };
+    let entries = read_curve(curve);
+    if !keeps_curve_rule(&entries) {
+        return Err(Refusal::CurveRuleBroken);
+    }
+    Ok(entries)
 }

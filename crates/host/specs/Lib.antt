@@ -1,4 +1,3 @@
 pub mod Host
 pub mod Agreement
 pub mod Accuracy
-pub mod Inner

@@ -2,13 +2,9 @@
 // numbers, also here, since the crate `host_c` hands the calls to C as they are, contract and all. They keep nothing between calls.
 #![tactic(auto)]
 
-ghost use Rattle.std.specs.Prelude.{◌≡◌, IfOk};
+ghost use Rattle.std.specs.Prelude.{◌≡◌};
 ghost use Rattle.refusal.specs.Numbers.{number_in};
-ghost use Rattle.refusal.specs.Refusal.{first_of};
-ghost use Rattle.curve.specs.Curve.{EntriesInRange};
-ghost use Rattle.curve_bytes.specs.CurveBytes.{curve_entries};
 ghost use Rattle.host.specs.Host.{curve_outcome, colour_outcome};
-ghost use Rattle.host.specs.Inner.{bytes_checks};
 
 use curve::Choice;
 use lines::Targets;
@@ -36,23 +32,6 @@ fn write_curve(strip: &[u8], choice: u32, bytes: &mut [u8]) -> Result<(), Refusa
     Ok(())
 }
 
-// The entries of a curve that a colour call brings. Refused: 10, 11.
-#[tactic(auto, using(curve_bytes::proofs::CurveBytes::accepted_in_range))]
-fn accepted_entries(curve: &[u8]) -> Result<[u16; 766], Refusal>
-    ensures number { number_in result ≡ first_of (bytes_checks curve.now) }
-    ensures entries { IfOk result (λ entries. entries ≡ curve_entries curve.now) }
-    ensures in_range { IfOk result EntriesInRange }
-{
-    let Some(curve) = curve.as_array() else {
-        return Err(Refusal::CurveLengthWrong);
-    };
-    let entries = curve_bytes::read_curve(curve);
-    if !curve_bytes::keeps_curve_rule(&entries) {
-        return Err(Refusal::CurveRuleBroken);
-    }
-    Ok(entries)
-}
-
 // Colours the source into the destination by a curve of 1,532 bytes. Refused: 10, 11, 7, 2, 8.
 pub fn cube_balance_colour(curve: &[u8], method: u32, source: &[u8], destination: &mut [u8]) -> u32
     ensures { colour_outcome (record { curve = curve.now; method = method; source = source.now; destination = destination.old }) ≡ record { number = result; bytes = destination.new } }
@@ -65,7 +44,7 @@ pub fn cube_balance_colour(curve: &[u8], method: u32, source: &[u8], destination
 fn colour(curve: &[u8], method: u32, source: &[u8], destination: &mut [u8]) -> Result<(), Refusal>
     ensures { colour_outcome (record { curve = curve.now; method = method; source = source.now; destination = destination.old }) ≡ record { number = number_in result; bytes = destination.new } }
 {
-    let entries = accepted_entries(curve)?;
+    let entries = curve_bytes::accepted_entries(curve)?;
     let method = Method::try_from(method)?;
     colouring::check_sizes(source, destination)?;
     let targets = Targets { entries: &entries };

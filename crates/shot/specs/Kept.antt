@@ -14,7 +14,7 @@ abbrev pub kept : Inside → State
 kept x = record { counts = x.counts; pixels = x.pixels; fixed = is_some x.curve; curve = entries x.curve }
 
 -- A curve that is kept is read back.
-curve_back : (curve : Option (List ℕ)) → cond (is_some curve) (Some (entries curve)) None ≡ curve
+pub curve_back : (curve : Option (List ℕ)) → cond (is_some curve) (Some (entries curve)) None ≡ curve
 unfolding entries
 curve_back None = refl
 curve_back (Some curve) = refl

@@ -1,7 +1,7 @@
 // A shot: opened empty, measured strip by strip, fixed once, and then used to colour strips (document 01, "The ground covered").
 #![tactic(auto)]
 
-ghost use Rattle.std.specs.Prelude.{◌≡◌};
+ghost use Rattle.std.specs.Prelude.{◌≡◌, cond, Some, None};
 ghost use Rattle.refusal.specs.Numbers.{number_in};
 ghost use Rattle.shot.specs.Inner.{handed_back};
 ghost use Rattle.shot.specs.Shot.{opened, measured, fixed_with, coloured};
@@ -162,4 +162,13 @@ impl Shot {
         colouring::colour_under(setting, targets, method, source, destination);
         Ok(())
     }
+}
+
+// The tone curve of a fixed shot; of another, none. (A free function, since it is no call of a shot's: what streams leave in a shot is handed
+// on by it.)
+#[tactic(auto, using(crate::specs::Kept::curve_back))]
+pub fn curve_of(shot: &Shot) -> Option<[u16; 766]>
+    ensures { result ≡ cond shot.now.fixed (Some shot.now.curve) None }
+{
+    shot.curve
 }

@@ -1,0 +1,2 @@
+pub mod StreamColour
+pub mod Inner

@@ -1,0 +1,2 @@
+pub mod StreamCurve
+pub mod Inner

@@ -1,0 +1,76 @@
+-- The tone curve of a stream of pixels of any length: a shot is opened, measures the stream piece by piece, and is fixed.
+use Rattle.std.specs.Prelude.{◌≡◌, false, not, List, [], ◌∷◌, ℕ, eqb, Result, Ok, Err}
+use Rattle.refusal.specs.Refusal.{Check, ◌refuses◌, first_of, if_accepted}
+use Rattle.pixel.specs.Strip.{Bytes}
+use Rattle.curve.specs.Choices.{is_choice}
+use Rattle.curve.specs.Curve.{curve_of}
+use Rattle.curve_bytes.specs.CurveBytes.{curve_bytes}
+use Rattle.shot.specs.Reachable.{Reachable}
+use Rattle.shot.specs.Shot.{opened, measured, fixed_with}
+use Rattle.shot.specs.declared.Answer.{Answer}
+use Rattle.shot.specs.declared.Shot.{Shot}
+use Rattle.pieces.specs.Pieces.{pieces_of, joined, EachWhole}
+use Rattle.pieces.specs.declared.Failure.{Failure}
+use Rattle.pieces.specs.declared.Failure.TheVariants.{Refused, NotRead, NotWritten}
+
+-- What measuring strips in turn hands back: the shot with all of them, or the answer to the first that is refused.
+abbrev pub measured_in_turn : Shot → List (List ℕ) → Answer
+measured_in_turn x [] = record { shot = x; number = 0 }
+measured_in_turn x (strip ∷ strips) =
+    let answer = measured x strip in
+    if_accepted answer.number (measured_in_turn answer.shot strips) answer
+
+-- What is told of a stream: 0 and the curve's bytes, or the number of a refusal and no byte.
+pub record StreamCurve : Type 0 where
+  pub number : ℕ
+  pub bytes : List ℕ
+
+-- Stream curve 4, 2 or 3, 5. 4: the curve choice is not 1 or 2. Then what a call of the shot is refused for: the measuring of the first piece
+-- that is refused, by 2 or 3, or else the fixing, by 5.
+abbrev pub curve_checks : (choice measuring fixing : ℕ) → List Check
+curve_checks choice measuring fixing =
+    not (is_choice choice) refuses 4
+    ∷ not (eqb measuring 0) refuses measuring
+    ∷ not (eqb fixing 0) refuses fixing
+    ∷ []
+
+-- What an opened shot's measuring of a stream hands back.
+abbrev pub stream_measured : List ℕ → Answer
+stream_measured stream = measured_in_turn opened (pieces_of stream)
+
+-- What fixing that shot then hands back.
+abbrev pub stream_fixed : ℕ → List ℕ → Answer
+stream_fixed choice stream = fixed_with (stream_measured stream).shot choice
+
+-- What is told of a stream and a choice.
+unfoldable pub stream_curve : ℕ → List ℕ → StreamCurve
+stream_curve choice stream =
+    let number = first_of (curve_checks choice (stream_measured stream).number (stream_fixed choice stream).number) in
+    record { number = number; bytes = if_accepted number (curve_bytes (stream_fixed choice stream).shot.curve) [] }
+
+-- An answer tells so; where a read failed it tells nothing.
+abbrev pub Tells : StreamCurve → Result (List ℕ) Failure → Type 0
+Tells told (Ok bytes) = record { number = 0; bytes = bytes } ≡ told
+Tells told (Err (Refused number)) = record { number = number; bytes = [] } ≡ told
+Tells told (Err NotRead) = Unit {0}
+Tells told (Err NotWritten) = ⊥
+
+-- Claim: of strips that are whole pixels, a shot that is not fixed measures in turn what it measures at once. Proved: proofs/Cutting.antt,
+-- `any_cutting_measures_alike`.
+pub record AnyCuttingMeasuresAlike : Type 0 where
+  -- what is accepted at once is accepted strip by strip, and leaves the same shot
+  pub same : (x : Shot) → Reachable x → (strips : List (List ℕ)) → Bytes (joined strips) → EachWhole strips
+      → (measured x (joined strips)).number ≡ 0 → measured_in_turn x strips ≡ measured x (joined strips)
+  -- and no more is accepted
+  pub no_more : (x : Shot) → Reachable x → x.fixed ≡ false → (strips : List (List ℕ)) → Bytes (joined strips) → EachWhole strips
+      → (measured_in_turn x strips).number ≡ 0 → (measured x (joined strips)).number ≡ 0
+
+-- Claim: a stream that an opened shot accepts as one strip gets that strip's curve, in the host's bytes. Proved: proofs/Agreement.antt,
+-- `streams_follow_shots`.
+pub record StreamsFollowShots : Type 0 where
+  pub curve : (choice : ℕ) (stream : List ℕ) → Bytes stream → (measured opened stream).number ≡ 0
+      → (fixed_with (measured opened stream).shot choice).number ≡ 0
+      → stream_curve choice stream ≡ record { number = 0; bytes = curve_bytes (curve_of choice (stream ∷ [])) }
+  -- and no other stream gets one
+  pub only : (choice : ℕ) (stream : List ℕ) → Bytes stream → (stream_curve choice stream).number ≡ 0
+      → ((measured opened stream).number ≡ 0) × ((fixed_with (measured opened stream).shot choice).number ≡ 0)

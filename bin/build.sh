@@ -1,8 +1,9 @@
 # shellcheck shell=bash
-# What bin/balance, bin/replay, bin/library and bench/run share: each builds its product where that is missing or older than its
+# What the scripts of bin/ and bench/run share: each builds its product where that is missing or older than its
 # sources. They source this file, which nobody runs, and are then in the project's folder. It speaks on standard error, since standard
 # output is theirs.
 script=$(realpath "$0")
+caller=$PWD
 cd "$(dirname "$script")/.."
 script=$(basename "$(dirname "$script")")/$(basename "$script")
 
@@ -51,13 +52,23 @@ Put the Rattle kit's rt on the path; README.md, \"Try it\", says which kit was u
     touch -d "@$started" "$product"
 }
 
-# start_program WHAT USE ARGUMENT...: starts the program that the script is named after, once it is up to date. It takes no argument, and
-# reads what it is given from standard input.
+# no_argument WHAT USE ARGUMENT...: for a program that only reads what it is given from standard input.
+no_argument() {
+    [ $# -eq 2 ] || fail "takes no argument, $1 comes on standard input: $2"
+}
+
+# start_program: starts the program that the script is named after, once it is up to date. It takes no argument.
 start_program() {
-    local name=${script#bin/} what=$1 use=$2 program
-    shift 2
-    program=crates/$name/out/$name
-    [ $# -eq 0 ] || fail "takes no argument, $what comes on standard input: $use"
-    bring_up_to_date "$program" "$name" "$name" run
-    exec "$program"
+    local name=${script#bin/}
+    bring_up_to_date "crates/$name/out/$name" "$name" "$name" run
+    exec "crates/$name/out/$name"
+}
+
+# start_filter ARGUMENT...: the same, for a filter, whose arguments may name files: it starts in the folder in which the script was called. rt
+# also runs what it builds: its usage is then all that is asked of it.
+start_filter() {
+    local name=${script#bin/} program=$PWD/crates/${script#bin/}/out/${script#bin/}
+    bring_up_to_date "crates/$name/out/$name" "$name" "$name" run -- --help
+    cd "$caller"
+    exec "$program" "$@"
 }

@@ -56,21 +56,21 @@ pub fn write_bytes(number: u32, bytes: &[u8], output: &mut [u8]) -> usize
 }
 
 // Why a line is no call. No `Display`: of `write!` it cannot be shown that it does not fail.
-fn reason(fault: Fault) -> &'static [u8]
+pub fn reason(fault: Fault) -> &'static str
     ensures text { result.now ≡ reason_text fault }
     ensures short { length result.now ≤ 52 }
 {
     match fault {
-        Fault::TooLong => b"longer than 65536 bytes",
-        Fault::NoSuchCall => b"no such call",
-        Fault::TooFewWords => b"too few words",
-        Fault::TooManyWords => b"too many words",
-        Fault::NotANumber => b"not a number from 0 to 4294967295",
-        Fault::NoSuchShot => b"no such shot",
-        Fault::NotPairs => b"not pairs of hexadecimal digits",
-        Fault::NotAPixel => b"not six hexadecimal digits",
-        Fault::NoSuchDial => b"no such dial command: off, mix or hold",
-        Fault::NotAFloat => b"not a float's bits: eight hexadecimal digits, or nan",
+        Fault::TooLong => "longer than 65536 bytes",
+        Fault::NoSuchCall => "no such call",
+        Fault::TooFewWords => "too few words",
+        Fault::TooManyWords => "too many words",
+        Fault::NotANumber => "not a number from 0 to 4294967295",
+        Fault::NoSuchShot => "no such shot",
+        Fault::NotPairs => "not pairs of hexadecimal digits",
+        Fault::NotAPixel => "not six hexadecimal digits",
+        Fault::NoSuchDial => "no such dial command: off, mix or hold",
+        Fault::NotAFloat => "not a float's bits: eight hexadecimal digits, or nan",
     }
 }
 
@@ -84,7 +84,7 @@ pub fn write_fault(fault: Fault, line: u64, output: &mut [u8]) -> usize
     writer.text(b"line ");
     writer.number(line);
     writer.text(b" is no call: ");
-    writer.text(reason(fault));
+    writer.text(reason(fault).as_bytes());
     writer.text(b"\n");
     writer.end
 }

@@ -13,7 +13,7 @@ use words::{Fault, Found};
 
 // The commands of the dial.
 #[derive(Clone, Copy, Debug, PartialEq, Eq)]
-enum DialCommand {
+pub enum DialCommand {
     Off,
     Mix,
     Hold,

@@ -1,5 +1,5 @@
 -- The tone curve of a stream of pixels of any length: a shot is opened, measures the stream piece by piece, and is fixed.
-use Rattle.std.specs.Prelude.{◌≡◌, false, not, List, [], ◌∷◌, ℕ, eqb, Result, Ok, Err}
+use Rattle.std.specs.Prelude.{◌≡◌, false, not, List, [], ◌∷◌, ℕ, eqb, length, Result, Ok, Err}
 use Rattle.refusal.specs.Refusal.{Check, ◌refuses◌, first_of, if_accepted}
 use Rattle.pixel.specs.Strip.{Bytes}
 use Rattle.curve.specs.Choices.{is_choice}
@@ -55,22 +55,30 @@ Tells told (Err (Refused number)) = record { number = number; bytes = [] } ≡ t
 Tells told (Err NotRead) = Unit {0}
 Tells told (Err NotWritten) = ⊥
 
--- Claim: of strips that are whole pixels, a shot that is not fixed measures in turn what it measures at once. Proved: proofs/Cutting.antt,
+-- Claim: strips that are whole pixels come to the same, measured in turn or put together. Proved: proofs/Cutting.antt,
 -- `any_cutting_measures_alike`.
 pub record AnyCuttingMeasuresAlike : Type 0 where
-  -- what is accepted at once is accepted strip by strip, and leaves the same shot
+  -- a shot that is not fixed accepts them in turn exactly if it accepts them at once, and refuses them by the same number
+  pub number : (x : Shot) → Reachable x → x.fixed ≡ false → (strips : List (List ℕ)) → Bytes (joined strips) → EachWhole strips
+      → (measured_in_turn x strips).number ≡ (measured x (joined strips)).number
+  -- what it accepts at once leaves the same shot
   pub same : (x : Shot) → Reachable x → (strips : List (List ℕ)) → Bytes (joined strips) → EachWhole strips
       → (measured x (joined strips)).number ≡ 0 → measured_in_turn x strips ≡ measured x (joined strips)
-  -- and no more is accepted
-  pub no_more : (x : Shot) → Reachable x → x.fixed ≡ false → (strips : List (List ℕ)) → Bytes (joined strips) → EachWhole strips
-      → (measured_in_turn x strips).number ≡ 0 → (measured x (joined strips)).number ≡ 0
 
--- Claim: a stream that an opened shot accepts as one strip gets that strip's curve, in the host's bytes. Proved: proofs/Agreement.antt,
--- `streams_follow_shots`.
+-- The fixing of an opened shot that measured the stream as one strip.
+abbrev pub fixed_at_once : ℕ → List ℕ → Answer
+fixed_at_once choice stream = fixed_with (measured opened stream).shot choice
+
+-- Claim: a stream gets the curve of a shot that measures it as one strip. Proved: proofs/Agreement.antt, `streams_follow_shots`.
 pub record StreamsFollowShots : Type 0 where
-  pub curve : (choice : ℕ) (stream : List ℕ) → Bytes stream → (measured opened stream).number ≡ 0
-      → (fixed_with (measured opened stream).shot choice).number ≡ 0
-      → stream_curve choice stream ≡ record { number = 0; bytes = curve_bytes (curve_of choice (stream ∷ [])) }
-  -- and no other stream gets one
+  -- where that measuring and fixing are accepted, so is the stream, and it gets that shot's curve
+  pub curve : (choice : ℕ) (stream : List ℕ) → Bytes stream → (measured opened stream).number ≡ 0 → (fixed_at_once choice stream).number ≡ 0
+      → stream_curve choice stream ≡ record { number = 0; bytes = curve_bytes (fixed_at_once choice stream).shot.curve }
+  -- and no other stream is accepted
   pub only : (choice : ℕ) (stream : List ℕ) → Bytes stream → (stream_curve choice stream).number ≡ 0
-      → ((measured opened stream).number ≡ 0) × ((fixed_with (measured opened stream).shot choice).number ≡ 0)
+      → ((measured opened stream).number ≡ 0) × ((fixed_at_once choice stream).number ≡ 0)
+  -- what is accepted gets a tone curve, in 1,532 bytes
+  pub size : (choice : ℕ) (stream : List ℕ) → Bytes stream → (stream_curve choice stream).number ≡ 0
+      → length (stream_curve choice stream).bytes ≡ curve_length
+  pub shape : (choice : ℕ) (stream : List ℕ) → Bytes stream → (stream_curve choice stream).number ≡ 0
+      → IsToneCurve (curve_entries (stream_curve choice stream).bytes)

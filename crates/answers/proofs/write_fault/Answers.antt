@@ -11,6 +11,6 @@ returns c =
     let numbered = wrote_more (omega arith) c.text.ensures c.number.ensures in
     let introduced = wrote_more (omega arith) numbered c.text-2.ensures in
     let reasoned = wrote_more (omega arith) introduced c.text-3.ensures in
-    rw (← c.reason.ensures.text)
+    rw (← c.reason.ensures.text, ← c.as_bytes.ensures.value)
     (answered (wrote_more (omega arith) reasoned c.text-4.ensures) c.new-writer.ensures.start c.new-writer.ensures.held (search rules)
     (omega (arith, decimal_size c.args.line (omega arith))))

@@ -1,0 +1,97 @@
+// The program `colour`: reads a stream of pixels from standard input, and writes it to standard output, coloured by a curve from a file. What
+// is decided is decided in `filter_words` and `stream_colouring`.
+#![tactic(auto)]
+
+use filter_words::Job;
+use pieces::Failure;
+use progress::{Amount, Progress};
+use reading::Filled;
+use std::io::IsTerminal;
+use std::process::ExitCode;
+use std::{env, fs};
+
+// One byte more than a curve has: so many bytes of a file tell its curve from a longer one.
+const ROOM: usize = 1533;
+
+const USAGE: &str = "usage: colour CURVE [METHOD] [off | mix K | hold V] <in.rgb >out.rgb";
+
+// Says how the program is called.
+fn help(rt: &HostRuntime) -> ExitCode {
+    match rt.println(USAGE) {
+        Ok(()) => ExitCode::SUCCESS,
+        Err(_) => ExitCode::FAILURE,
+    }
+}
+
+// The arguments cannot be used.
+fn misused(rt: &HostRuntime, reason: &str) -> ExitCode {
+    let usage = USAGE;
+    let _ = eprintln!(rt;
+        "colour: {reason}; usage: colour CURVE [METHOD] [off | mix K | hold V] <in.rgb >out.rgb"
+    );
+    ExitCode::from(2)
+}
+
+// The stream is not coloured to its end. So much of it was read.
+fn failed(rt: &HostRuntime, failure: Failure, amount: Amount) -> ExitCode {
+    let _ = match failure {
+        Failure::Refused(number) => eprintln!(rt; "refused {number}\ncolour: {amount}"),
+        _ => eprintln!(rt; "colour: {failure}; {amount}"),
+    };
+    ExitCode::FAILURE
+}
+
+// Colours the stream by the curve.
+fn run(rt: &HostRuntime, curve: &[u8], job: Job) -> ExitCode {
+    let mut stream = Progress::new(rt.stdin(), rt, rt.stderr().is_terminal());
+    let done = stream_colouring::colour_stream(
+        curve,
+        job.method,
+        job.setting,
+        &mut stream,
+        &mut rt.stdout(),
+    );
+    match done {
+        Ok(()) => ExitCode::SUCCESS,
+        Err(failure) => failed(rt, failure, stream.amount()),
+    }
+}
+
+// Colours by the curve in the file of this name.
+fn run_by_file(rt: &HostRuntime, name: &str, job: Job) -> ExitCode {
+    let mut curve = [0u8; ROOM];
+    let read = match fs::open(rt, name) {
+        Ok(mut file) => reading::fill(&mut file, &mut curve),
+        Err(_) => Filled {
+            size: 0,
+            failed: true,
+        },
+    };
+    if read.failed {
+        let _ = eprintln!(rt; "colour: the curve {name:?} cannot be read");
+        return ExitCode::FAILURE;
+    }
+    run(rt, &curve[..read.size], job)
+}
+
+// What the arguments name: the curve's file, and then how to colour.
+fn main(rt: HostRuntime) -> ExitCode {
+    let Ok(mut arguments) = env::args(&rt) else {
+        return misused(&rt, "the arguments cannot be read");
+    };
+    // the program's name
+    arguments.next();
+    let Some(name) = arguments.next() else {
+        return misused(&rt, "no curve is named");
+    };
+    if name.as_str() == "--help" {
+        return help(&rt);
+    }
+    let Ok(line) = filter_words::line_of(arguments, rt.alloc()) else {
+        return misused(&rt, "no memory for the arguments");
+    };
+    match filter_words::read_job(line.as_bytes()) {
+        Ok(job) => run_by_file(&rt, name.as_str(), job),
+        Err(fault) => misused(&rt, answers::reason(fault)),
+    }
+}

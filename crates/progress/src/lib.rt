@@ -1,0 +1,84 @@
+// How far a filter is: the bytes that its stream has brought, told once a second where somebody looks.
+#![tactic(auto)]
+
+ghost use Rattle.std.specs.Prelude.{◌≡◌};
+
+use std::io::{Eprint, Read};
+use std::rt::Clock;
+use std::time::Instant;
+use std::{fmt, io};
+
+// Bytes of a stream, as pixels and what is left over.
+#[derive(Clone, Copy)]
+pub struct Amount {
+    pub bytes: u64,
+}
+
+impl fmt::Display for Amount {
+    fn fmt<W: fmt::Write>(&self, f: &mut fmt::Formatter<W>) -> fmt::Result {
+        let pixels = self.bytes / 3;
+        let over = self.bytes % 3;
+        write!(f, "{pixels} pixels and {over} bytes were read")
+    }
+}
+
+// A reader that counts the bytes it brings. Where it is to tell, it does so on standard error, over the line that it wrote before.
+#[derive(Drop)]
+pub struct Progress<'a, R, S> {
+    reader: R,
+    system: &'a S,
+    amount: Amount,
+    // when it told last; none where it is not to tell
+    told: Option<Instant>,
+}
+
+impl<'a, R: Read, S: Clock + Eprint> Progress<'a, R, S> {
+    // Tells where `tells` is set and the system has a clock.
+    pub fn new(reader: R, system: &'a S, tells: bool) -> Progress<'a, R, S> {
+        let told = if tells {
+            Instant::now(system).ok()
+        } else {
+            None
+        };
+        Progress {
+            reader,
+            system,
+            amount: Amount { bytes: 0 },
+            told,
+        }
+    }
+
+    // What was brought so far.
+    pub fn amount(&self) -> Amount {
+        self.amount
+    }
+
+    // Tells, where it is time.
+    fn tell(&mut self) -> io::Result<()>
+        ensures { self.new.reader ≡ self.old.reader }
+    {
+        let Some(told) = self.told else {
+            return Ok(());
+        };
+        let now = Instant::now(self.system)?;
+        if now.duration_since(told).as_secs() < 1 {
+            return Ok(());
+        }
+        self.told = Some(now);
+        let amount = self.amount;
+        eprint!(self.system; "\r{amount}")
+    }
+}
+
+impl<'a, R: Read, S: Clock + Eprint> Read for Progress<'a, R, S> {
+    ghost remaining = { λ p. R.remaining p.reader };
+
+    fn read(&mut self, buf: &mut [u8]) -> io::Result<usize> {
+        let size = self.reader.read(buf)?;
+        // no stream has so many bytes that the number comes round
+        self.amount.bytes = self.amount.bytes.wrapping_add(size as u64);
+        // what cannot be told is no fault of the stream
+        let _ = self.tell();
+        Ok(size)
+    }
+}

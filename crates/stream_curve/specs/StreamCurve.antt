@@ -3,8 +3,8 @@ use Rattle.std.specs.Prelude.{◌≡◌, false, not, List, [], ◌∷◌, ℕ, e
 use Rattle.refusal.specs.Refusal.{Check, ◌refuses◌, first_of, if_accepted}
 use Rattle.pixel.specs.Strip.{Bytes}
 use Rattle.curve.specs.Choices.{is_choice}
-use Rattle.curve.specs.Curve.{curve_of}
-use Rattle.curve_bytes.specs.CurveBytes.{curve_bytes}
+use Rattle.curve.specs.Curve.{IsToneCurve}
+use Rattle.curve_bytes.specs.CurveBytes.{curve_length, curve_bytes, curve_entries}
 use Rattle.shot.specs.Reachable.{Reachable}
 use Rattle.shot.specs.Shot.{opened, measured, fixed_with}
 use Rattle.shot.specs.declared.Answer.{Answer}

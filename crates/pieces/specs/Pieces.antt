@@ -1,5 +1,4 @@
--- The pieces in which a stream of any length is taken: 65,536 pixels at a time, and what is left. The issue of a stream of pixels is raw packed
--- RGB, as a strip is, with no size of a frame.
+-- A stream is a run of bytes of any length, three to a pixel, as a strip is: raw packed RGB. It is taken in pieces.
 use Rattle.std.specs.Prelude.{◌≡◌, true, List, [], ◌∷◌, ◌++◌, ℕ, zero, suc, ◌/◌, take, drop, length}
 use Rattle.tables.specs.Table.{◌among◌}
 use Rattle.pixel.specs.Strip.{is_whole}
@@ -26,6 +25,6 @@ joined (piece ∷ pieces) = piece ++ joined pieces
 abbrev pub EachWhole : List (List ℕ) → Type 0
 EachWhole pieces = (piece : List ℕ) → piece among pieces → is_whole (length piece) ≡ true
 
--- Claim: the pieces of a stream, put together, are the stream, and all but the last are full. Proved: proofs/Pieces.antt, `pieces_are_the_stream`.
+-- Claim: the pieces of a stream, put together, are the stream. Proved: proofs/Pieces.antt, `pieces_are_the_stream`.
 abbrev pub PiecesAreTheStream : Type 0
 PiecesAreTheStream = (stream : List ℕ) → joined (pieces_of stream) ≡ stream

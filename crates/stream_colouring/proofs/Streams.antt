@@ -27,7 +27,7 @@ use Rattle.stream_colouring.specs.Inner.{coloured_by, Writes, Stands}
 use Rattle.stream_colouring.specs.declared.grade.Grade.{Grade}
 
 -- whole pixels at the front of a strip are changed as a strip of their own
-each_append : (change : Pixel → Pixel) (strip rest : List ℕ) → length strip % 3 ≡ 0
+pub each_append : (change : Pixel → Pixel) (strip rest : List ℕ) → length strip % 3 ≡ 0
     → each_pixel change (strip ++ rest) ≡ each_pixel change strip ++ each_pixel change rest
 each_append change strip rest whole =
     ap (λ (ps : List Pixel). bytes_of (map change ps)) (pixels_append strip rest whole)

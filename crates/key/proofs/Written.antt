@@ -30,10 +30,14 @@ use Rattle.book.proofs.Reading.{reads}
 use Rattle.curve_bytes.specs.CurveBytes.{curve_entries}
 use Rattle.host.specs.Host.{colour_outcome}
 use Rattle.host.proofs.Accuracy.{host_accurate}
+use Rattle.stream_colouring.specs.Accuracy.{opening as before_stream}
+use Rattle.stream_colouring.specs.StreamColour.{stream_colour}
+use Rattle.stream_colouring.proofs.Accuracy.{streams_are_accurate}
+use Rattle.stream_colouring.proofs.Passed.{opened}
 use Rattle.still.specs.Still.{file_method, own_curve, file_samples}
 use Rattle.still.proofs.Agreement.{file_colouring}
 use Rattle.key.specs.Dial.{WidthsUnder}
-use Rattle.key.specs.Written.{WrittenWidths, WrittenBalanceWidths, CallsKeepWidths, HostKeepsWidths, FilesKeepWidths}
+use Rattle.key.specs.Written.{WrittenWidths, WrittenBalanceWidths, CallsKeepWidths, HostKeepsWidths, StreamsKeepWidths, FilesKeepWidths}
 use Rattle.key.proofs.Dial.{widths_under}
 
 -- the source pixel has bytes for samples, the entry is a target, and it was coloured under this setting, which is in range
@@ -100,6 +104,15 @@ host_keeps_widths c bytes w m =
     (λ e. (host_accurate.shapes c e).range)
     bytes w m in
     written_balance w from (accurate.exact w m) (accurate.rules w m)
+
+pub streams_keep_widths : StreamsKeepWidths
+streams_keep_widths c bytes w m =
+    let accepted = (in_accepted (before_stream c) _ w m).0 in
+    let from = from_bytes (before_stream c) c.setting (method_of c.method) (curve_entries c.curve) c.stream (stream_colour c).bytes
+    (opened c.curve c.method c.setting accepted).in_range
+    (λ e. (streams_are_accurate.shapes c e).range)
+    bytes w m in
+    written_widths w from (streams_are_accurate.exact c bytes w m) (streams_are_accurate.rules c bytes w m)
 
 pub files_keep_widths : FilesKeepWidths
 files_keep_widths file bytes accepted w m =

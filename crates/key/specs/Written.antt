@@ -1,4 +1,4 @@
--- The widths of a key for every pixel written (corollaries of demands 2 and 3, as `book`, `host` and `still` state them).
+-- The widths of a key for every pixel written (corollaries of demands 2 and 3, as `book`, `host`, `stream_colouring` and `still` state them).
 use Rattle.std.specs.Prelude.{List, ℕ}
 use Rattle.tables.specs.Table.{◌among◌}
 use Rattle.pixel.specs.Strip.{Bytes}
@@ -8,6 +8,8 @@ use Rattle.book.specs.Book.{Call}
 use Rattle.book.specs.Run.{Step, trace, Occurs, WellFormed}
 use Rattle.host.specs.Accuracy.{written as writtenByHost}
 use Rattle.host.specs.Host.{ColourCall}
+use Rattle.stream_colouring.specs.Accuracy.{written as writtenInStream}
+use Rattle.stream_colouring.specs.StreamColour.{StreamCall}
 use Rattle.still.specs.Agreement.{pixels_of_file}
 use Rattle.still.specs.Still.{IsAccepted}
 use Rattle.key.specs.Dial.{WidthsUnder}
@@ -36,3 +38,7 @@ HostKeepsWidths = (c : ColourCall) → Bytes c.source → (w : Written) → w am
 abbrev pub FilesKeepWidths : Type 0
 FilesKeepWidths =
     (file : List ℕ) → Bytes file → IsAccepted file → (w : Written) → w among pixels_of_file file → WrittenBalanceWidths w
+
+-- Claim: every pixel that a colouring of a stream writes keeps the widths of its setting. Proved: proofs/Written.antt, `streams_keep_widths`.
+abbrev pub StreamsKeepWidths : Type 0
+StreamsKeepWidths = (c : StreamCall) → Bytes c.stream → (w : Written) → w among writtenInStream c → WrittenWidths w

@@ -1,11 +1,19 @@
 /*
- * Balances raw rgb24 video: frames on standard input, coloured frames on standard output, each measured as a shot of its own.
+ * Balances raw rgb24 video: frames on standard input, coloured frames on standard output.
  *
- *     rgb24 WIDTH HEIGHT [CHOICE] [METHOD]
+ *     rgb24 [-q] WIDTH HEIGHT [CHOICE] [METHOD]    measures each frame as a shot of its own
+ *     rgb24 [-q] -c CURVE WIDTH HEIGHT [METHOD]    colours every frame by the curve in the file CURVE
  *
- * CHOICE is 1 (cube, the default) or 2 (equalised); METHOD is 1 (Naik and Murthy) or 2 (Yang and Lee, the default). The time that
- * the two calls took for each frame goes to standard error, beside the slot of a frame at 24 frames a second, and a summary at the
- * end. Exit status 2: bad arguments; 1: anything else that failed. docs/CALLS.md has the commands, between two of ffmpeg.
+ * CHOICE is 1 (cube, the default) or 2 (equalised); METHOD is 1 (Naik and Murthy) or 2 (Yang and Lee, the default). The file
+ * CURVE has the bytes that cube_balance_curve writes.
+ *
+ * A curve for every frame flickers and undoes fades: a whole shot is one curve. The proved programs bin/measure and bin/colour
+ * make that curve and colour by it, for streams of any length: `bin/measure <raw >curve`, then `bin/colour curve <raw >coloured`.
+ * This filter is for C programmers, who see here how the two calls are made for frames.
+ *
+ * The time that the calls took for each frame goes to standard error, beside the slot of a frame at 24 frames a second, and a
+ * summary at the end; with -q only failures are told. Exit status 2: bad arguments; 1: anything else that failed. docs/CALLS.md
+ * has the commands, between two of ffmpeg.
  */
 #define _POSIX_C_SOURCE 200809L
 #include "cube_balance.h"
@@ -20,12 +28,17 @@
 #include <time.h>
 
 static const double SLOT_MS = 41.7;
+static const char USAGE[] = "usage: rgb24 [-q] WIDTH HEIGHT [CHOICE] [METHOD]\n"
+                            "   or: rgb24 [-q] -c CURVE WIDTH HEIGHT [METHOD]";
 
 struct job {
     size_t frame_length; /* bytes */
     uint32_t choice, method;
-    uint8_t *source, *destination; /* one frame each, for the whole run */
-    double *times;                 /* milliseconds of every frame so far */
+    bool quiet;
+    const char *curve_file;                   /* NULL where each frame is measured */
+    uint8_t curve[CUBE_BALANCE_CURVE_LENGTH]; /* the file's, or the last frame's */
+    uint8_t *source, *destination;            /* one frame each, for the whole run */
+    double *times;                            /* milliseconds of every frame so far */
     size_t frames, room;
 };
 
@@ -53,22 +66,70 @@ static unsigned long number_of(const char *name, const char *text, unsigned long
     return number;
 }
 
+/* A hyphen before a digit begins no option: "-5" is told of as a width. */
+static bool is_option(const char *text)
+{
+    return text[0] == '-' && strspn(text + 1, "0123456789") == 0;
+}
+
+/* Takes the options, and hands back the place of the first argument after them. */
+static int take_options(struct job *job, int argc, char **argv)
+{
+    int place = 1;
+    for (; place < argc && is_option(argv[place]); place++) {
+        if (strcmp(argv[place], "-q") == 0)
+            job->quiet = true;
+        else if (strcmp(argv[place], "-c") != 0)
+            stop(2, "no such option: '%s'\n%s", argv[place], USAGE);
+        else if (++place == argc)
+            stop(2, "no file after -c\n%s", USAGE);
+        else
+            job->curve_file = argv[place];
+    }
+    return place;
+}
+
 static struct job job_of(int argc, char **argv)
 {
     struct job job = {.choice = CUBE_BALANCE_CUBE, .method = CUBE_BALANCE_YANG_LEE};
-    if (argc < 3 || argc > 5)
-        stop(2, "usage: rgb24 WIDTH HEIGHT [CHOICE] [METHOD]");
-    unsigned long width = number_of("width", argv[1], CUBE_BALANCE_PIXEL_LIMIT);
-    unsigned long height = number_of("height", argv[2], CUBE_BALANCE_PIXEL_LIMIT);
-    if (argc > 3)
-        job.choice = (uint32_t)number_of("choice", argv[3], 2);
-    if (argc > 4)
-        job.method = (uint32_t)number_of("method", argv[4], 2);
+    int place = take_options(&job, argc, argv);
+    int left = argc - place;
+    /* a choice is how to make a curve, so there is none where the curve is given */
+    if (left < 2 || left > (job.curve_file == NULL ? 4 : 3))
+        stop(2, "too %s arguments\n%s", left < 2 ? "few" : "many", USAGE);
+    unsigned long width = number_of("width", argv[place++], CUBE_BALANCE_PIXEL_LIMIT);
+    unsigned long height = number_of("height", argv[place++], CUBE_BALANCE_PIXEL_LIMIT);
+    if (place < argc && job.curve_file == NULL)
+        job.choice = (uint32_t)number_of("choice", argv[place++], 2);
+    if (place < argc)
+        job.method = (uint32_t)number_of("method", argv[place], 2);
     /* by division, since the product might not fit */
     if (width > CUBE_BALANCE_PIXEL_LIMIT / height)
         stop(2, "a frame of %lu by %lu has more than %d pixels", width, height, CUBE_BALANCE_PIXEL_LIMIT);
     job.frame_length = 3 * (size_t)width * height;
     return job;
+}
+
+/* The library says whether the bytes are a curve: with no pixel to colour and a method that is one, it can refuse nothing else. */
+static void expect_curve(const struct job *job, const uint8_t *bytes, size_t length)
+{
+    uint32_t number = cube_balance_colour(bytes, length, job->method, NULL, 0, NULL, 0);
+    if (number == CUBE_BALANCE_CURVE_LENGTH_WRONG)
+        stop(1, "curve '%s': refused %u, it is not %d bytes long", job->curve_file, (unsigned)number, CUBE_BALANCE_CURVE_LENGTH);
+    if (number != CUBE_BALANCE_ACCEPTED)
+        stop(1, "curve '%s': refused %u, its entries break the rule", job->curve_file, (unsigned)number);
+}
+
+static void read_curve(struct job *job)
+{
+    uint8_t bytes[sizeof job->curve + 1] = {0}; /* one more, since a longer file has to show as one */
+    FILE *file = fopen(job->curve_file, "rb");
+    size_t length = file == NULL ? 0 : fread(bytes, 1, sizeof bytes, file);
+    if (file == NULL || ferror(file))
+        stop(1, "curve '%s': %s", job->curve_file, strerror(errno));
+    fclose(file);
+    expect_curve(job, bytes, length);
+    memcpy(job->curve, bytes, sizeof job->curve);
 }
 
 /* Zeroed, since every byte lent to a call must have been set. */
@@ -123,21 +184,42 @@ static void keep_time(struct job *job, double ms)
     job->times[job->frames++] = ms;
 }
 
-static void balance_frame(struct job *job)
+/* Makes the frame's curve, and hands back the milliseconds that it took. */
+static double measure_frame(struct job *job)
 {
-    uint8_t curve[CUBE_BALANCE_CURVE_LENGTH] = {0};
     double start = now_ms();
     expect_accepted(job, "cube_balance_curve",
-                    cube_balance_curve(job->source, job->frame_length, job->choice, curve, sizeof curve));
-    double fixed = now_ms();
+                    cube_balance_curve(job->source, job->frame_length, job->choice, job->curve, sizeof job->curve));
+    return now_ms() - start;
+}
+
+static double colour_frame(const struct job *job)
+{
+    double start = now_ms();
     expect_accepted(job, "cube_balance_colour",
-                    cube_balance_colour(curve, sizeof curve, job->method, job->source, job->frame_length, job->destination,
-                                        job->frame_length));
-    double done = now_ms();
+                    cube_balance_colour(job->curve, sizeof job->curve, job->method, job->source, job->frame_length,
+                                        job->destination, job->frame_length));
+    return now_ms() - start;
+}
+
+static void tell_times(const struct job *job, double curve, double colour)
+{
+    double together = curve + colour, share = 100.0 * together / SLOT_MS;
+    if (job->curve_file != NULL)
+        fprintf(stderr, "frame %zu: colour %.3f ms, %.1f %% of %.1f ms\n", job->frames, colour, share, SLOT_MS);
+    else
+        fprintf(stderr, "frame %zu: curve %.3f ms, colour %.3f ms, together %.3f ms, %.1f %% of %.1f ms\n", job->frames,
+                curve, colour, together, share, SLOT_MS);
+}
+
+static void balance_frame(struct job *job)
+{
+    double curve = job->curve_file == NULL ? measure_frame(job) : 0;
+    double colour = colour_frame(job);
     write_frame(job);
-    keep_time(job, done - start);
-    fprintf(stderr, "frame %zu: curve %.3f ms, colour %.3f ms, together %.3f ms, %.1f %% of %.1f ms\n", job->frames,
-            fixed - start, done - fixed, done - start, 100.0 * (done - start) / SLOT_MS, SLOT_MS);
+    keep_time(job, curve + colour);
+    if (!job->quiet)
+        tell_times(job, curve, colour);
 }
 
 static int by_size(const void *a, const void *b)
@@ -166,6 +248,8 @@ static void summary(const struct job *job)
 int main(int argc, char **argv)
 {
     struct job job = job_of(argc, argv);
+    if (job.curve_file != NULL)
+        read_curve(&job);
     signal(SIGPIPE, SIG_IGN); /* a closed pipe is then a failed write, which is told */
     job.source = memory(job.frame_length);
     job.destination = memory(job.frame_length);
@@ -175,6 +259,7 @@ int main(int argc, char **argv)
         stop(1, "no frame on standard input");
     if (fclose(stdout) != 0)
         stop(1, "closing standard output: %s", strerror(errno));
-    summary(&job);
+    if (!job.quiet)
+        summary(&job);
     return 0;
 }

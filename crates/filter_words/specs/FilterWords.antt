@@ -1,6 +1,7 @@
 -- The words that the filters `measure` and `colour` are given: their arguments, put together to one line. A word that may be left out stands
 -- for the customer's own way with a picture: the cube's curve, method 2 and the full balance.
-use Rattle.std.specs.Prelude.{cond, List, ℕ, Option, Some, None, is_some, Result, Ok, ok_or}
+use Rattle.std.specs.Prelude.{cond, List, [], ◌∷◌, ◌++◌, ℕ, Option, Some, None, is_some, Result, Ok, ok_or}
+use Rattle.text.specs.Text.{ascii}
 use Rattle.settings.specs.Setting.{full}
 use Rattle.settings.specs.declared.Setting.{Setting}
 use Rattle.settings.specs.declared.Setting.TheVariants.{Off, Mix, Hold}
@@ -13,6 +14,11 @@ use Rattle.dial_words.specs.DialWords.{command_of}
 use Rattle.dial_words.specs.declared.DialCommand.{DialCommand}
 use Rattle.dial_words.specs.declared.DialCommand.TheVariants.{Off as IsOff, Mix as IsMix, Hold as IsHold}
 use Rattle.filter_words.specs.declared.Job.{Job}
+
+-- Words put together to a line, each with a space after it.
+abbrev pub spaced : List (List ℕ) → List ℕ
+spaced [] = []
+spaced (word ∷ words) = word ++ (ascii " " ++ spaced words)
 
 -- A number that may be left out, and then is this one.
 abbrev pub number_or : ℕ → List ℕ → Option Word → Result (Found ℕ) Fault

@@ -1,9 +1,10 @@
 // The words that the filters `measure` and `colour` are given.
 #![tactic(auto)]
 
-ghost use Rattle.std.specs.Prelude.{◌≡◌};
+ghost use Rattle.std.specs.Prelude.{◌≡◌, map, IfOk, string_bytes};
+ghost use Rattle.std.specs.Vec.Iter.{into_iter_items};
 ghost use Rattle.words.specs.Words.{word_at};
-ghost use Rattle.filter_words.specs.FilterWords.{number_or, choice_in, method_or, setting_by, setting_or, job_in};
+ghost use Rattle.filter_words.specs.FilterWords.{spaced, number_or, choice_in, method_or, setting_by, setting_or, job_in};
 
 use dial_words::DialCommand;
 use settings::Setting;
@@ -103,11 +104,13 @@ pub fn read_job(line: &[u8]) -> Result<Job, Fault>
 }
 
 // The words that follow, put together to one line, each with a space after it.
-pub fn line_of(words: Args, alloc: Global) -> Result<String, AllocError> {
+pub fn line_of(words: Args, alloc: Global) -> Result<String, AllocError>
+    ensures { IfOk result (λ line. string_bytes line ≡ spaced (map string_bytes (into_iter_items words))) }
+{
     let mut line = String::new(alloc);
     for word in words {
         line.push_str(word.as_str())?;
-        line.push(' ')?;
+        line.push_str(" ")?;
     }
     Ok(line)
 }

@@ -34,7 +34,10 @@ pub struct Progress<'a, R, S> {
 
 impl<'a, R: Read, S: Clock + Eprint> Progress<'a, R, S> {
     // Tells where `tells` is set and the system has a clock.
-    pub fn new(reader: R, system: &'a S, tells: bool) -> Progress<'a, R, S> {
+    pub fn new(reader: R, system: &'a S, tells: bool) -> Progress<'a, R, S>
+        ensures reader { result.reader ≡ reader }
+        ensures none_brought { result.amount.bytes ≡ 0 }
+    {
         let told = if tells {
             Instant::now(system).ok()
         } else {
@@ -49,7 +52,9 @@ impl<'a, R: Read, S: Clock + Eprint> Progress<'a, R, S> {
     }
 
     // What was brought so far.
-    pub fn amount(&self) -> Amount {
+    pub fn amount(&self) -> Amount
+        ensures { result ≡ self.now.amount }
+    {
         self.amount
     }
 

@@ -1,3 +1,4 @@
 pub mod Turns
 pub mod Fixing
 pub mod Told
+pub mod Cutting

@@ -42,7 +42,7 @@ joined_whole [] whole = refl
 joined_whole (strip ∷ strips) whole =
     omega (arith, length-append strip (joined strips), whole_means (length strip) (first_whole whole), joined_whole strips (rest_whole whole))
 
--- the counts with a whole strip's pixels and then another's are those with both
+-- the counts with a whole strip's pixels, and then with another's, are those with the pixels of both put together
 counts_together : (counts a b : List ℕ) → length a % 3 ≡ 0
     → with_pixels (with_pixels counts (pixels_of a)) (pixels_of b) ≡ with_pixels counts (pixels_of (a ++ b))
 unfolding with_pixels
@@ -56,14 +56,14 @@ counts_together counts a b whole =
       count_append (λ i. eqb i s) (pixels_of a) (pixels_of b),
     ))
 
--- and so is the shot
+-- and the shot with one strip and then the other is the shot with both put together
 strips_together : (x : Shot) (a b : List ℕ) → length a % 3 ≡ 0 → with_strip (with_strip x a) b ≡ with_strip x (a ++ b)
 strips_together x a b whole =
     let pixels : x.pixels + length a / 3 + length b / 3 ≡ x.pixels + length (a ++ b) / 3 = omega (arith, whole, length-append a b) in
     λ i. record { counts = counts_together x.counts a b whole i; pixels = pixels i; fixed = x.fixed; curve = x.curve }
 
 -- a shot that accepts a strip is not fixed
-pub accepted_unfixed : (x : Shot) (strip : List ℕ) → (measured x strip).number ≡ 0 → x.fixed ≡ false
+accepted_unfixed : (x : Shot) (strip : List ℕ) → (measured x strip).number ≡ 0 → x.fixed ≡ false
 unfolding measured
 accepted_unfixed x strip ok =
     (none_applies (measure_checks x.fixed (is_whole (length strip)) (ltb pixel_limit (x.pixels + length strip / 3))) refl ok).0
@@ -79,12 +79,6 @@ module _ (x : Shot) (unfixed : x.fixed ≡ false) where
   too_many : (strip : List ℕ) → length strip % 3 ≡ 0 → pixel_limit < x.pixels + length strip / 3 → (measured x strip).number ≡ 3
   unfolding measured
   too_many strip whole over = simp (unfixed, eq-eqb (length strip % 3) 0 whole, lt-ltb pixel_limit (x.pixels + length strip / 3) over)
-
--- a first strip that is refused is the answer
-stops : (x : Shot) (strip : List ℕ) (strips : List (List ℕ)) → ((measured x strip).number ≡ 0 → ⊥)
-    → measured_in_turn x (strip ∷ strips) ≡ measured x strip
-stops x strip strips refused =
-    refused_leaves (measured x strip).number (measured_in_turn (measured x strip).shot strips) (measured x strip) refused
 
 -- The first of whole strips is accepted, if there is room for all of them.
 first_accepted : (x : Shot) (strip : List ℕ) (strips : List (List ℕ)) → EachWhole (strip ∷ strips)
@@ -119,7 +113,9 @@ one_too_many x (strip ∷ strips) unfixed whole within over =
     (omega (arith, full, length-append strip (joined strips), over)))
     (λ above.
     let three = too_many x unfixed strip full above in
-    ap (λ (a : Answer). a.number) (stops x strip strips (λ e. omega (arith, three, e))) ∙ three)
+    ap (λ (a : Answer). a.number)
+    (refused_leaves (measured x strip).number (measured_in_turn (measured x strip).shot strips) (measured x strip) (λ e. omega (arith, three, e)))
+    ∙ three)
 
 -- What is accepted at once is accepted in turn, and leaves the same shot.
 same_lem : (x : Shot) → Reachable x → (strips : List (List ℕ)) → Bytes (joined strips) → EachWhole strips

@@ -25,7 +25,7 @@ use Rattle.shot.specs.declared.Shot.{Shot}
 use Rattle.shot.proofs.Answers.{fixed_is}
 use Rattle.shot.proofs.Holds.{reachable_holds}
 use Rattle.shot.proofs.Passed.{measure_passed, fix_passed}
-use Rattle.pieces.specs.Pieces.{piece_length, first_pieces, pieces_of, joined, EachWhole}
+use Rattle.pieces.specs.Pieces.{piece_length, first_pieces, pieces_of, EachWhole}
 use Rattle.pieces.proofs.Pieces.{pieces_are_the_stream}
 use Rattle.stream_curve.specs.StreamCurve.{measured_in_turn, StreamCurve, curve_checks, stream_measured, stream_fixed, stream_curve, fixed_at_once, StreamsFollowShots}
 use Rattle.stream_curve.proofs.Cutting.{any_cutting_measures_alike}
@@ -65,16 +65,12 @@ accepted_whole x (strip ∷ strips) ok =
     (accepted_whole (measured x strip).shot strips
     (sym (ap (λ (a : Answer). a.number) (accepted_leaves (measured x strip).number others (measured x strip) first)) ∙ ok))
 
--- A stream of bytes.
-module _ (stream : List ℕ) (bytes : Bytes stream) where
-  -- its pieces put together are bytes
-  bytes_joined : Bytes (joined (pieces_of stream))
-  bytes_joined = subst Bytes (sym (pieces_are_the_stream stream)) bytes
-
+-- A stream.
+module _ (stream : List ℕ) where
   -- what measuring it as one strip accepts, its measuring in pieces hands back
   as_one_strip : (measured opened stream).number ≡ 0 → stream_measured stream ≡ measured opened stream
   as_one_strip ok =
-      any_cutting_measures_alike.same opened by_opening (pieces_of stream) bytes_joined
+      any_cutting_measures_alike.same opened by_opening (pieces_of stream)
       (pieces_whole stream (whole_means (length stream) (measure_passed opened stream ok).whole))
       (ap (λ (l : List ℕ). (measured opened l).number) (pieces_are_the_stream stream) ∙ ok)
       ∙ ap (measured opened) (pieces_are_the_stream stream)
@@ -83,7 +79,7 @@ module _ (stream : List ℕ) (bytes : Bytes stream) where
   from_pieces : (stream_measured stream).number ≡ 0 → (measured opened stream).number ≡ 0
   from_pieces ok =
       sym (ap (λ (l : List ℕ). (measured opened l).number) (pieces_are_the_stream stream))
-      ∙ sym (any_cutting_measures_alike.number opened by_opening (opened_unfixed refl) (pieces_of stream) bytes_joined
+      ∙ sym (any_cutting_measures_alike.number opened by_opening (opened_unfixed refl) (pieces_of stream)
       (accepted_whole opened (pieces_of stream) ok))
       ∙ ok
 
@@ -104,7 +100,7 @@ module _ (choice : ℕ) (stream : List ℕ) (bytes : Bytes stream) where
   curve_lem measures fixes =
       sym (fixing_told choice stream (fix_passed (measured opened stream).shot choice fixes).known (measured opened stream).shot
       (Ok (curve_bytes (fixed_at_once choice stream).shot.curve))
-      (as_one_strip stream bytes measures ∙ (λ i. record { shot = (measured opened stream).shot; number = measures i }))
+      (as_one_strip stream measures ∙ (λ i. record { shot = (measured opened stream).shot; number = measures i }))
       (fixes, refl))
 
   -- Where the stream is accepted,
@@ -116,9 +112,9 @@ module _ (choice : ℕ) (stream : List ℕ) (bytes : Bytes stream) where
         let (_, (measuring, (fixing, _))) =
         none_applies (curve_checks choice (stream_measured stream).number (stream_fixed choice stream).number)
         (numbered choice (stream_measured stream).number (stream_fixed choice stream).number) ok in
-        let measures = from_pieces stream bytes (eqb-true _ _ (not-false _ measuring)) in (
+        let measures = from_pieces stream (eqb-true _ _ (not-false _ measuring)) in (
           measures,
-          ap (λ (a : Answer). (fixed_with a.shot choice).number) (sym (as_one_strip stream bytes measures))
+          ap (λ (a : Answer). (fixed_with a.shot choice).number) (sym (as_one_strip stream measures))
               ∙ eqb-true _ _ (not-false _ fixing),
         )
 

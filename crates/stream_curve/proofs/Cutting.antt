@@ -1,7 +1,6 @@
 -- Strips of whole pixels come to the same, measured in turn or put together.
 use mathlib.Core.Path.{◌≡◌, refl, sym, ap, ◌∙◌}
-use mathlib.Core.Bool.{true, false}
-use mathlib.Core.List.Memᴰ
+use mathlib.Core.Bool.{false}
 use mathlib.Core.List.{List, [], ◌∷◌, ◌++◌, append-nil}
 use Prim.Native.Nat.{ℕ, ◌+◌, ◌/◌, ◌%◌, ◌<◌, ◌≤◌}
 use native.Mathlib.Omega.{arith}
@@ -12,7 +11,7 @@ use Rattle.refusal.proofs.Laws.{none_applies, refused_leaves}
 use Rattle.tables.specs.Table.{at}
 use Rattle.tables.proofs.Cases.{either}
 use Rattle.tables.proofs.Laws.{at_tabulate, tabulate_same}
-use Rattle.pixel.specs.Strip.{is_whole, pixels_of, Bytes}
+use Rattle.pixel.specs.Strip.{is_whole, pixels_of}
 use Rattle.pixel.proofs.Strips.{whole_means}
 use Rattle.measuring.specs.Histogram.{pixel_limit, count_of, with_pixels}
 use Rattle.measuring.proofs.Counts.{count_append}
@@ -25,22 +24,9 @@ use Rattle.shot.proofs.Empty.{empty_strips_change_nothing}
 use Rattle.shot.proofs.Passed.{MeasuringAccepted, measure_passed}
 use Rattle.shot.proofs.Premise.{within_limit}
 use Rattle.pieces.specs.Pieces.{joined, EachWhole}
+use Rattle.pieces.proofs.Whole.{first_whole, rest_whole, joined_whole}
 use Rattle.pieces.proofs.Pieces.{pixels_append}
 use Rattle.stream_curve.specs.StreamCurve.{measured_in_turn, AnyCuttingMeasuresAlike}
-
--- the first of whole strips is whole
-first_whole : {strip : List ℕ} {strips : List (List ℕ)} → EachWhole (strip ∷ strips) → is_whole (length strip) ≡ true
-first_whole {strip} whole = whole strip (Memᴰ.head refl)
-
--- and so are the others
-rest_whole : {strip : List ℕ} {strips : List (List ℕ)} → EachWhole (strip ∷ strips) → EachWhole strips
-rest_whole whole = λ piece m. whole piece (Memᴰ.tail m)
-
--- whole strips put together are whole
-joined_whole : (strips : List (List ℕ)) → EachWhole strips → length (joined strips) % 3 ≡ 0
-joined_whole [] whole = refl
-joined_whole (strip ∷ strips) whole =
-    omega (arith, length-append strip (joined strips), whole_means (length strip) (first_whole whole), joined_whole strips (rest_whole whole))
 
 -- the counts with a whole strip's pixels, and then with another's, are those with the pixels of both put together
 counts_together : (counts a b : List ℕ) → length a % 3 ≡ 0
@@ -118,23 +104,23 @@ one_too_many x (strip ∷ strips) unfixed whole within over =
     ∙ three)
 
 -- What is accepted at once is accepted in turn, and leaves the same shot.
-same_lem : (x : Shot) → Reachable x → (strips : List (List ℕ)) → Bytes (joined strips) → EachWhole strips
+same_lem : (x : Shot) → Reachable x → (strips : List (List ℕ)) → EachWhole strips
     → (measured x (joined strips)).number ≡ 0 → measured_in_turn x strips ≡ measured x (joined strips)
-same_lem x r [] bytes whole ok = sym (empty_strips_change_nothing.measuring x r (accepted_unfixed x [] ok))
-same_lem x r (strip ∷ strips) bytes whole ok =
+same_lem x r [] whole ok = sym (empty_strips_change_nothing.measuring x r (accepted_unfixed x [] ok))
+same_lem x r (strip ∷ strips) whole ok =
     let unfixed = accepted_unfixed x (joined (strip ∷ strips)) ok in
     let passed = measure_passed x (joined (strip ∷ strips)) ok in
     all_accepted x strip strips unfixed whole passed.room ∙ sym (measured_is x (joined (strip ∷ strips)) unfixed passed)
 
 -- Both are refused by 3, or neither is.
-number_lem : (x : Shot) → Reachable x → x.fixed ≡ false → (strips : List (List ℕ)) → Bytes (joined strips) → EachWhole strips
+number_lem : (x : Shot) → Reachable x → x.fixed ≡ false → (strips : List (List ℕ)) → EachWhole strips
     → (measured_in_turn x strips).number ≡ (measured x (joined strips)).number
-number_lem x r unfixed strips bytes whole =
+number_lem x r unfixed strips whole =
     let full = joined_whole strips whole in
     either (x.pixels + length (joined strips) / 3) pixel_limit
     (λ room.
     let passed = measured_is x (joined strips) unfixed (record { whole = eq-eqb (length (joined strips) % 3) 0 full; room = room }) in
-    ap (λ (a : Answer). a.number) (same_lem x r strips bytes whole (ap (λ (a : Answer). a.number) passed)))
+    ap (λ (a : Answer). a.number) (same_lem x r strips whole (ap (λ (a : Answer). a.number) passed)))
     (λ over. one_too_many x strips unfixed whole (within_limit r) over ∙ sym (too_many x unfixed (joined strips) full over))
 
 pub any_cutting_measures_alike : AnyCuttingMeasuresAlike

@@ -59,10 +59,10 @@ Tells told (Err NotWritten) = ⊥
 -- `any_cutting_measures_alike`.
 pub record AnyCuttingMeasuresAlike : Type 0 where
   -- a shot that is not fixed accepts them in turn exactly if it accepts them at once, and refuses them by the same number
-  pub number : (x : Shot) → Reachable x → x.fixed ≡ false → (strips : List (List ℕ)) → Bytes (joined strips) → EachWhole strips
+  pub number : (x : Shot) → Reachable x → x.fixed ≡ false → (strips : List (List ℕ)) → EachWhole strips
       → (measured_in_turn x strips).number ≡ (measured x (joined strips)).number
   -- what it accepts at once leaves the same shot
-  pub same : (x : Shot) → Reachable x → (strips : List (List ℕ)) → Bytes (joined strips) → EachWhole strips
+  pub same : (x : Shot) → Reachable x → (strips : List (List ℕ)) → EachWhole strips
       → (measured x (joined strips)).number ≡ 0 → measured_in_turn x strips ≡ measured x (joined strips)
 
 -- The fixing of an opened shot that measured the stream as one strip.

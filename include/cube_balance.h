@@ -67,7 +67,7 @@ extern "C" {
  * hands a version back, so keep this header with the library that bin/library built beside it.
  */
 #define CUBE_BALANCE_VERSION_MAJOR 3
-#define CUBE_BALANCE_VERSION_MINOR 0
+#define CUBE_BALANCE_VERSION_MINOR 1
 #define CUBE_BALANCE_VERSION_PATCH 0
 
 /* The bytes of a curve, and the most pixels of which cube_balance_curve makes one. (Colouring has no such limit.) */

@@ -112,6 +112,19 @@ def number_faults():
             yield f"{CALLS}: {call} has the order {orders[call]}, and its checks {order_of(call)}"
 
 
+def filter_faults():
+    """What is wrong with the orders that the page gives for the two filters. A shot that is opened is never refused 1."""
+    measuring, colouring = (read(CRATES / file) for file in ("stream_curve/specs/StreamCurve.antt", "stream_colouring/specs/StreamColour.antt"))
+    pieces = sorted(set(order_of("measure")) - {1}, reverse=True)
+    due = {
+        "`measure`": checked(measuring, "curve_checks") + pieces + order_of("fix")[-1:],
+        "`colour`": [number for name in ("opening_checks", "setting_checks", "stream_checks") for number in checked(colouring, name)],
+    }
+    rows = {row[0]: [int(number) for number in re.findall(r"\d+", row[1])] for row in table(CALLS, ["filter", "refused, in this order"]).rows}
+    if rows != due:
+        yield f"{CALLS}: the filters refuse by {rows}, and their checks have {due}"
+
+
 def header_faults():
     """What is wrong with the orders that the C header gives."""
     for call in "cube_balance_curve", "cube_balance_colour":
@@ -178,7 +191,7 @@ def selftest():
 
 def main():
     selftest()
-    faults = [*number_faults(), *header_faults(), *parameter_faults(), *word_faults(), *book_faults(), *limit_faults()]
+    faults = [*number_faults(), *filter_faults(), *header_faults(), *parameter_faults(), *word_faults(), *book_faults(), *limit_faults()]
     sys.exit(report("calls", f"{len(CHECKS)} calls", faults))
 
 

@@ -51,9 +51,10 @@ fn run(rt: &HostRuntime, curve: &[u8], job: Job) -> ExitCode {
         &mut stream,
         &mut rt.stdout(),
     );
+    let amount = stream.end();
     match done {
         Ok(()) => ExitCode::SUCCESS,
-        Err(failure) => failed(rt, failure, stream.amount()),
+        Err(failure) => failed(rt, failure, amount),
     }
 }
 

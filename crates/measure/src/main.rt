@@ -37,12 +37,14 @@ fn failed(rt: &HostRuntime, failure: Failure, amount: Amount) -> ExitCode {
 // Measures the stream and writes its curve.
 fn run(rt: &HostRuntime, choice: u32) -> ExitCode {
     let mut stream = Progress::new(rt.stdin(), rt, rt.stderr().is_terminal());
-    let curve = match stream_curve::measure_stream(choice, &mut stream) {
+    let measured = stream_curve::measure_stream(choice, &mut stream);
+    let amount = stream.end();
+    let curve = match measured {
         Ok(curve) => curve,
-        Err(failure) => return failed(rt, failure, stream.amount()),
+        Err(failure) => return failed(rt, failure, amount),
     };
     if rt.stdout().write_all(&curve).is_err() {
-        return failed(rt, Failure::NotWritten, stream.amount());
+        return failed(rt, Failure::NotWritten, amount);
     }
     ExitCode::SUCCESS
 }

@@ -30,6 +30,8 @@ pub struct Progress<'a, R, S> {
     amount: Amount,
     // when it told last; none where it is not to tell
     told: Option<Instant>,
+    // whether a line stands there
+    wrote: bool,
 }
 
 impl<'a, R: Read, S: Clock + Eprint> Progress<'a, R, S> {
@@ -48,13 +50,17 @@ impl<'a, R: Read, S: Clock + Eprint> Progress<'a, R, S> {
             system,
             amount: Amount { bytes: 0 },
             told,
+            wrote: false,
         }
     }
 
-    // What was brought so far.
-    pub fn amount(&self) -> Amount
+    // Ends the line that it wrote, if it wrote any, and hands back what was brought.
+    pub fn end(&self) -> Amount
         ensures { result ≡ self.now.amount }
     {
+        if self.wrote {
+            let _ = eprintln!(self.system;);
+        }
         self.amount
     }
 
@@ -70,6 +76,7 @@ impl<'a, R: Read, S: Clock + Eprint> Progress<'a, R, S> {
             return Ok(());
         }
         self.told = Some(now);
+        self.wrote = true;
         let amount = self.amount;
         eprint!(self.system; "\r{amount}")
     }

@@ -1,6 +1,6 @@
 #include "plain.h"
 
-enum { SUMS = 766, WHITE = 765 };
+enum { SUMS = PLAIN_SUMS, WHITE = 765 };
 
 /* The nearest whole number to n / d, halves up. */
 static uint32_t near(uint32_t n, uint32_t d)
@@ -15,7 +15,7 @@ static uint64_t near_wide(uint64_t n, uint64_t d)
 
 /* ---- Measuring ---- */
 
-static void count(const uint8_t *strip, size_t length, uint32_t *counts)
+void plain_count(const uint8_t *restrict strip, size_t length, uint32_t *restrict counts)
 {
     for (size_t i = 0; i < length; i += 3)
         counts[strip[i] + strip[i + 1] + strip[i + 2]]++;
@@ -65,10 +65,8 @@ static void equalised_entries(const uint64_t *part, uint64_t whole, uint16_t *en
         entries[s] = (uint16_t)near_wide(WHITE * part[s], whole);
 }
 
-void plain_curve(const uint8_t *strip, size_t length, uint32_t choice, uint8_t *curve)
+void plain_fix(const uint32_t *counts, uint32_t choice, uint8_t *curve)
 {
-    uint32_t counts[SUMS] = {0};
-    count(strip, length, counts);
     uint64_t part[SUMS];
     uint64_t whole = shares(counts, part);
     uint16_t entries[SUMS];
@@ -82,6 +80,13 @@ void plain_curve(const uint8_t *strip, size_t length, uint32_t choice, uint8_t *
         curve[2 * s] = (uint8_t)(entries[s] % 256);
         curve[2 * s + 1] = (uint8_t)(entries[s] / 256);
     }
+}
+
+void plain_curve(const uint8_t *strip, size_t length, uint32_t choice, uint8_t *curve)
+{
+    uint32_t counts[SUMS] = {0};
+    plain_count(strip, length, counts);
+    plain_fix(counts, choice, curve);
 }
 
 /* ---- Colouring ---- */
@@ -160,12 +165,17 @@ void plain_colour(const uint8_t *curve, uint32_t method, const uint8_t *restrict
 
 /* ---- The dial ---- */
 
+void plain_blend(uint32_t k, const uint8_t *restrict source, size_t length, uint8_t *restrict destination)
+{
+    for (size_t i = 0; i < length; i++)
+        destination[i] = (uint8_t)((source[i] * (256 - k) + destination[i] * k + 128) / 256);
+}
+
 void plain_mix(const uint8_t *curve, uint32_t method, uint32_t k, const uint8_t *restrict source, size_t length,
                uint8_t *restrict destination)
 {
     plain_colour(curve, method, source, length, destination);
-    for (size_t i = 0; i < length; i++)
-        destination[i] = (uint8_t)((source[i] * (256 - k) + destination[i] * k + 128) / 256);
+    plain_blend(k, source, length, destination);
 }
 
 void plain_hold(uint32_t method, uint32_t v, const uint8_t *restrict source, size_t length, uint8_t *restrict destination)

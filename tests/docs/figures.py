@@ -88,14 +88,24 @@ def dial_sentences(rows):
     yield PERFORMANCE, f"| {span(numbers(rows, full, **off), 2)} times the full balance; {span(numbers(rows, plain, **off), 2)} times plain C's speed |"
 
 
+def filter_sentences(rows):
+    """What is said of the filters, by the medians: ours over C's."""
+    ratio = 7
+    measuring = numbers(rows, ratio, program="measure")
+    colouring = [value for setting in ("full balance", "mix", "hold") for value in numbers(rows, ratio, program="colour", setting=setting)]
+    off = numbers(rows, ratio, program="colour", setting="off")
+    yield PERFORMANCE, f"| measuring {span(measuring, 2)} times, colouring {span(colouring, 2)} times, off {span(off, 2)} times | met; **not met** by off |"
+
+
 def benchmark_sentences():
     found = tables(read(DOCS / "BENCHMARK.md"))
-    if [table.head[0] for table in found] != ["frame", "frame", "frame", "frame", "pixels", "frame"]:
-        raise SystemExit("docs/BENCHMARK.md has not its six tables")
+    if [table.head[0] for table in found] != ["frame", "frame", "frame", "frame", "pixels", "frame", "program"]:
+        raise SystemExit("docs/BENCHMARK.md has not its seven tables")
     yield from jobs_sentences(found[0].rows + found[2].rows)
     yield from frame_sentences(found[3].rows)
     yield from size_sentences(found[4].rows)
     yield from dial_sentences(found[5].rows)
+    yield from filter_sentences(found[6].rows)
 
 
 def tolerance_sentences():

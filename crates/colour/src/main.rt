@@ -11,7 +11,7 @@ use std::process::ExitCode;
 use std::{env, fs};
 
 // One byte more than a curve has: so many bytes of a file tell its curve from a longer one.
-const ROOM: usize = 1533;
+const ROOM: usize = curve_bytes::CURVE_LENGTH + 1;
 
 const USAGE: &str = "usage: colour CURVE [METHOD] [off | mix K | hold V] <in.rgb >out.rgb";
 
@@ -26,16 +26,14 @@ fn help(rt: &HostRuntime) -> ExitCode {
 // The arguments cannot be used.
 fn misused(rt: &HostRuntime, reason: &str) -> ExitCode {
     let usage = USAGE;
-    let _ = eprintln!(rt;
-        "colour: {reason}; usage: colour CURVE [METHOD] [off | mix K | hold V] <in.rgb >out.rgb"
-    );
+    let _ = eprintln!(rt; "colour: {reason}; {usage}");
     ExitCode::from(2)
 }
 
 // The stream is not coloured to its end. So much of it was read.
 fn failed(rt: &HostRuntime, failure: Failure, amount: Amount) -> ExitCode {
     let _ = match failure {
-        Failure::Refused(number) => eprintln!(rt; "refused {number}\ncolour: {amount}"),
+        Failure::Refused(_) => eprintln!(rt; "{failure}\ncolour: {amount}"),
         _ => eprintln!(rt; "colour: {failure}; {amount}"),
     };
     ExitCode::FAILURE

@@ -112,7 +112,7 @@ streams_keep_widths c bytes w m =
     (opened c.curve c.method c.setting accepted).in_range
     (λ e. (streams_are_accurate.shapes c e).range)
     bytes w m in
-    written_widths w from (streams_are_accurate.exact c bytes w m) (streams_are_accurate.rules c bytes w m)
+    written_widths w from (streams_are_accurate.exact c w m) (streams_are_accurate.rules c bytes w m)
 
 pub files_keep_widths : FilesKeepWidths
 files_keep_widths file bytes accepted w m =

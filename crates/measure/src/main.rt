@@ -28,7 +28,7 @@ fn misused(rt: &HostRuntime, reason: &str) -> ExitCode {
 // There is no curve, or it is not written. So much of the stream was read.
 fn failed(rt: &HostRuntime, failure: Failure, amount: Amount) -> ExitCode {
     let _ = match failure {
-        Failure::Refused(number) => eprintln!(rt; "refused {number}\nmeasure: {amount}"),
+        Failure::Refused(_) => eprintln!(rt; "{failure}\nmeasure: {amount}"),
         _ => eprintln!(rt; "measure: {failure}; {amount}"),
     };
     ExitCode::FAILURE

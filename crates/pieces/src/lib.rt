@@ -9,8 +9,8 @@ ghost use Rattle.pieces.specs.declared.Failure.TheVariants.{Refused};
 use refusal::Refusal;
 use std::fmt;
 
-// A piece has at most so many bytes: 65,536 pixels. So many cost much more than the lines that each colouring makes, and stay in a
-// processor's second cache.
+// A piece has at most so many bytes: 65,536 pixels. So many cost much more than the lines that each colouring makes, and both
+// buffers of a filter still stay near the processor.
 pub const PIECE_LENGTH: usize = 196608;
 
 // Room for a piece, since nothing allocates. Its contract gives only the length, so that no proof has so many zeros to look at.

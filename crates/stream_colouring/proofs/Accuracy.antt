@@ -74,7 +74,7 @@ streams_are_accurate =
     record {
       size = size;
       shapes = λ c ok. opened_shape (opened c.curve c.method c.setting ok);
-      exact = λ c bytes w m.
+      exact = λ c w m.
           coloured_pixels_are_exact c.setting (method_of c.method) (curve_entries c.curve) c.stream w (by_stream c w m).member;
       rounded = λ c bytes w m.
           let by = by_stream c w m in

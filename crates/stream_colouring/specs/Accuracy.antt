@@ -28,7 +28,7 @@ pub record StreamsAreAccurate : Type 0 where
   -- the curve of a call that writes has 766 entries, the first 0 and the last 765, none above 765 and none less than the one before
   pub shapes : (c : StreamCall) → opening c ≡ 0 → IsToneCurve (curve_entries c.curve)
   -- every pixel written is what the setting's rule gives, and so the paper's, rounded once, and keeps the rules of its setting
-  pub exact : (c : StreamCall) → Bytes c.stream → (w : Written) → w among written c → WrittenExact w
+  pub exact : (c : StreamCall) → (w : Written) → w among written c → WrittenExact w
   pub rounded : (c : StreamCall) → Bytes c.stream → (w : Written) → w among written c → WrittenRounded w
   pub rules : (c : StreamCall) → Bytes c.stream → (w : Written) → w among written c → WrittenAccurate w
   -- without a command, or with mix 256, it is the paper's and keeps the mission's own rules

@@ -51,7 +51,7 @@ stream_colour c =
       bytes = if_accepted (opening_number c.curve c.method c.setting) (coloured_under c.setting (method_of c.method) (curve_entries c.curve) c.stream) [];
     }
 
--- An answer tells the number, and the writer has the bytes after those that it had before; where a read or a write failed, nothing is said.
+-- An answer tells the number, and the writer has the bytes after those that it had before; one that a read or a write failed says nothing.
 abbrev pub Leaves : StreamColour → Option (List ℕ) → Option (List ℕ) → Result (Unit {0}) Failure → Type 0
 Leaves left old new (Ok _) = (left.number ≡ 0) × Appends old new left.bytes
 Leaves left old new (Err (Refused number)) = (left.number ≡ number) × (number ≡ 0 → ⊥) × Appends old new left.bytes

@@ -2,10 +2,11 @@
 // stream is coloured.
 #![tactic(auto)]
 
-ghost use Rattle.std.specs.Prelude.{◌≡◌, ◌≤◌, length, IfOk, IfSome};
+ghost use Rattle.std.specs.Prelude.{◌≡◌, ◌≤◌, length, IfOk, IfSome, Err};
 ghost use Rattle.refusal.specs.Numbers.{number_in};
 ghost use Rattle.refusal.specs.Refusal.{first_of};
 ghost use Rattle.colouring.specs.Inner.{SameSize};
+ghost use Rattle.pieces.specs.declared.Failure.TheVariants.{Refused};
 ghost use Rattle.stream_colouring.specs.StreamColour.{opening_number, setting_checks, stream_colour, Leaves};
 ghost use Rattle.stream_colouring.specs.Inner.{IsGrade, coloured_by, Writes};
 
@@ -120,7 +121,8 @@ pub fn colour_stream<R: Read, W: Write>(
     reader: &mut R,
     writer: &mut W,
 ) -> Result<(), Failure>
-    ensures { IfSome (R.remaining reader.old) (λ stream. Leaves (stream_colour (record { curve = curve.now; method = method; setting = setting; stream = stream })) (W.contents writer.old) (W.contents writer.new) result) }
+    ensures before { (opening_number curve.now method setting ≡ 0 → ⊥) → (result ≡ Err (Refused (opening_number curve.now method setting))) × (reader.new ≡ reader.old) × (writer.new ≡ writer.old) }
+    ensures told { IfSome (R.remaining reader.old) (λ stream. Leaves (stream_colour (record { curve = curve.now; method = method; setting = setting; stream = stream })) (W.contents writer.old) (W.contents writer.new) result) }
 {
     let grade = Grade::new(curve, method, setting)?;
     grade.write_stream(reader, writer)

@@ -93,7 +93,7 @@ numbered : (choice measuring fixing : ℕ) → are_numbered (curve_checks choice
 numbered choice measuring fixing = rw (above_or_none measuring, above_or_none fixing) refl
 
 -- A stream and a choice.
-module _ (choice : ℕ) (stream : List ℕ) (bytes : Bytes stream) where
+module _ (choice : ℕ) (stream : List ℕ) where
   -- accepted as one strip, the stream gets the curve of that shot
   curve_lem : (measured opened stream).number ≡ 0 → (fixed_at_once choice stream).number ≡ 0
       → stream_curve choice stream ≡ record { number = 0; bytes = curve_bytes (fixed_at_once choice stream).shot.curve }
@@ -103,25 +103,24 @@ module _ (choice : ℕ) (stream : List ℕ) (bytes : Bytes stream) where
       (as_one_strip stream measures ∙ (λ i. record { shot = (measured opened stream).shot; number = measures i }))
       (fixes, refl))
 
-  -- Where the stream is accepted,
-  module _ (ok : (stream_curve choice stream).number ≡ 0) where
-    -- so is the one strip, by measuring and by fixing
-    only_lem : ((measured opened stream).number ≡ 0) × ((fixed_at_once choice stream).number ≡ 0)
-    unfolding stream_curve
-    only_lem =
-        let (_, (measuring, (fixing, _))) =
-        none_applies (curve_checks choice (stream_measured stream).number (stream_fixed choice stream).number)
-        (numbered choice (stream_measured stream).number (stream_fixed choice stream).number) ok in
-        let measures = from_pieces stream (eqb-true _ _ (not-false _ measuring)) in (
-          measures,
-          ap (λ (a : Answer). (fixed_with a.shot choice).number) (sym (as_one_strip stream measures))
-              ∙ eqb-true _ _ (not-false _ fixing),
-        )
+  -- and where the stream is accepted, so is the one strip, by measuring and by fixing
+  only_lem : (stream_curve choice stream).number ≡ 0 → ((measured opened stream).number ≡ 0) × ((fixed_at_once choice stream).number ≡ 0)
+  unfolding stream_curve
+  only_lem ok =
+      let (_, (measuring, (fixing, _))) =
+      none_applies (curve_checks choice (stream_measured stream).number (stream_fixed choice stream).number)
+      (numbered choice (stream_measured stream).number (stream_fixed choice stream).number) ok in
+      let measures = from_pieces stream (eqb-true _ _ (not-false _ measuring)) in (
+        measures,
+        ap (λ (a : Answer). (fixed_with a.shot choice).number) (sym (as_one_strip stream measures)) ∙ eqb-true _ _ (not-false _ fixing),
+      )
 
+  -- Where a stream of bytes is accepted,
+  module _ (bytes : Bytes stream) (ok : (stream_curve choice stream).number ≡ 0) where
     -- the shot that measured it is fixed
     fixed_lem : (fixed_at_once choice stream).shot.fixed ≡ true
     fixed_lem =
-        let (measures, fixes) = only_lem in
+        let (measures, fixes) = only_lem ok in
         ap (λ (a : Answer). a.shot.fixed)
         (fixed_is (measured opened stream).shot choice (stays_unfixed opened stream refl (opened_unfixed refl))
         (fix_passed (measured opened stream).shot choice fixes))
@@ -132,7 +131,7 @@ module _ (choice : ℕ) (stream : List ℕ) (bytes : Bytes stream) where
 
     -- and the stream's bytes are the curve's
     bytes_are : (stream_curve choice stream).bytes ≡ curve_bytes (fixed_at_once choice stream).shot.curve
-    bytes_are = ap (λ (told : StreamCurve). told.bytes) (curve_lem only_lem.0 only_lem.1)
+    bytes_are = ap (λ (told : StreamCurve). told.bytes) (curve_lem (only_lem ok).0 (only_lem ok).1)
 
     -- so they are 1,532,
     size_lem : length (stream_curve choice stream).bytes ≡ curve_length

@@ -48,7 +48,7 @@ stream_curve choice stream =
     let number = first_of (curve_checks choice (stream_measured stream).number (stream_fixed choice stream).number) in
     record { number = number; bytes = if_accepted number (curve_bytes (stream_fixed choice stream).shot.curve) [] }
 
--- An answer tells so; where a read failed it tells nothing.
+-- An answer tells so; one that the input could not be read tells nothing. (What a read that fails leaves no contract of a reader says.)
 abbrev pub Tells : StreamCurve → Result (List ℕ) Failure → Type 0
 Tells told (Ok bytes) = record { number = 0; bytes = bytes } ≡ told
 Tells told (Err (Refused number)) = record { number = number; bytes = [] } ≡ told
@@ -72,10 +72,10 @@ fixed_at_once choice stream = fixed_with (measured opened stream).shot choice
 -- Claim: a stream gets the curve of a shot that measures it as one strip. Proved: proofs/Agreement.antt, `streams_follow_shots`.
 pub record StreamsFollowShots : Type 0 where
   -- where that measuring and fixing are accepted, so is the stream, and it gets that shot's curve
-  pub curve : (choice : ℕ) (stream : List ℕ) → Bytes stream → (measured opened stream).number ≡ 0 → (fixed_at_once choice stream).number ≡ 0
+  pub curve : (choice : ℕ) (stream : List ℕ) → (measured opened stream).number ≡ 0 → (fixed_at_once choice stream).number ≡ 0
       → stream_curve choice stream ≡ record { number = 0; bytes = curve_bytes (fixed_at_once choice stream).shot.curve }
   -- and no other stream is accepted
-  pub only : (choice : ℕ) (stream : List ℕ) → Bytes stream → (stream_curve choice stream).number ≡ 0
+  pub only : (choice : ℕ) (stream : List ℕ) → (stream_curve choice stream).number ≡ 0
       → ((measured opened stream).number ≡ 0) × ((fixed_at_once choice stream).number ≡ 0)
   -- what is accepted gets a tone curve, in 1,532 bytes
   pub size : (choice : ℕ) (stream : List ℕ) → Bytes stream → (stream_curve choice stream).number ≡ 0

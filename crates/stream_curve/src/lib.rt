@@ -1,8 +1,10 @@
 // The tone curve of a stream of pixels of any length, by a shot's own calls, piece by piece.
 #![tactic(auto)]
 
-ghost use Rattle.std.specs.Prelude.{◌≡◌, false, IfSome, IfOk};
+ghost use Rattle.std.specs.Prelude.{◌≡◌, false, IfSome, IfOk, Err};
+ghost use Rattle.curve.specs.Choices.{is_choice};
 ghost use Rattle.shot.specs.Shot.{fixed_with};
+ghost use Rattle.pieces.specs.declared.Failure.TheVariants.{Refused};
 ghost use Rattle.stream_curve.specs.StreamCurve.{Tells, stream_measured, stream_curve};
 ghost use Rattle.stream_curve.specs.Inner.{Measures, Fixes};
 
@@ -51,9 +53,10 @@ fn fixed_bytes(shot: Shot, choice: u32) -> Result<[u8; CURVE_LENGTH], Failure>
     Ok(bytes)
 }
 
-// The curve of the whole stream as one shot. Refused: 4; 2 or 3; 5.
+// The curve of the whole stream as one shot. Refused: 4, before a byte is read; 2 or 3; 5.
 pub fn measure_stream<R: Read>(choice: u32, reader: &mut R) -> Result<[u8; CURVE_LENGTH], Failure>
-    ensures { IfSome (R.remaining reader.old) (λ stream. Tells (stream_curve choice stream) result) }
+    ensures before { is_choice choice ≡ false → (result ≡ Err (Refused 4)) × (reader.new ≡ reader.old) }
+    ensures told { IfSome (R.remaining reader.old) (λ stream. Tells (stream_curve choice stream) result) }
 {
     // before any byte is read; fixing takes the number
     let _ = Choice::try_from(choice)?;

@@ -4,6 +4,7 @@ compared with.
 Written from the documents alone, and apart from host/exact.c, so that a slip in one of the two shows.
 """
 
+from collections import Counter
 from itertools import accumulate
 
 
@@ -34,16 +35,19 @@ def entry(choice, pixels, below, at_most):
     return min(range(766), key=lambda k: abs(whole * TARGETS[k] - TARGETS[765] * part))
 
 
+def each_pixel(frame):
+    """The pixels of a frame, one after the other: a list of all would be too much for a whole clip."""
+    return zip(frame[0::3], frame[1::3], frame[2::3])
+
+
 def pixels_of(frame):
-    return [tuple(frame[i : i + 3]) for i in range(0, len(frame), 3)]
+    return list(each_pixel(frame))
 
 
 def curve_of(frame, choice):
     """The tone curve of a frame taken as a whole shot."""
-    counts = [0] * 766
-    for pixel in pixels_of(frame):
-        counts[sum(pixel)] += 1
-    at_most = list(accumulate(counts))
+    counts = Counter(map(sum, each_pixel(frame)))
+    at_most = list(accumulate(counts[s] for s in range(766)))
     steps = list(zip(at_most, at_most[1:765]))
     entries = {step: entry(choice, at_most[765], *step) for step in set(steps)}
     return [0] + [entries[step] for step in steps] + [765]
@@ -71,7 +75,12 @@ def moved(method, pixel, f):
     return tuple((naik_murthy if method == 1 else yang_lee)(c, s, f) for c in pixel)
 
 
+def coloured(frame, curve, method):
+    """A frame coloured by a curve."""
+    written = {pixel: bytes(moved(method, pixel, curve[sum(pixel)])) for pixel in set(each_pixel(frame))}
+    return b"".join(map(written.get, each_pixel(frame)))
+
+
 def balanced(frame, choice, method):
     """A frame coloured by its own curve."""
-    curve = curve_of(frame, choice)
-    return bytes(sample for pixel in pixels_of(frame) for sample in moved(method, pixel, curve[sum(pixel)]))
+    return coloured(frame, curve_of(frame, choice), method)

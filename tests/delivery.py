@@ -56,11 +56,17 @@ def coded(x, zero, bits):
     return Fraction(rounded(steps * (zero + x)), steps) - zero
 
 
+def uncoded(y, blue, red, weights=(RED, BLUE), scales=(LUMA, CHROMA)):
+    """Red, green and blue, exactly, from coded luma and chroma: by the weights of a matrix, and the scales of a range."""
+    of_red, of_blue = weights
+    y /= scales[0]
+    b, r = y + blue * (1 - of_blue) / scales[1], y + red * (1 - of_red) / scales[1]
+    return r, (y - of_red * r - of_blue * b) / (1 - of_red - of_blue), b
+
+
 def read_back(y, blue, red):
     """A pixel from its coded luma and chroma."""
-    y /= LUMA
-    b, r = y + blue * (1 - BLUE) / CHROMA, y + red * (1 - RED) / CHROMA
-    return byte(r), byte((y - RED * r - BLUE * b) / GREEN), byte(b)
+    return tuple(map(byte, uncoded(y, blue, red)))
 
 
 def delivered(pixels, columns, form):

@@ -21,7 +21,7 @@ import pasted  # noqa: E402
 from clips import ffmpeg  # noqa: E402
 from conversions import delivery, matrix  # noqa: E402
 from failing import FAILING, failures  # noqa: E402
-from machines import cores, jobs  # noqa: E402
+from machines import cores, jobs, queue  # noqa: E402
 from passes import even, many, passes, reel, still_by_ffmpeg, still_by_imagemagick  # noqa: E402
 from shots import rgb24, sampled  # noqa: E402
 
@@ -42,7 +42,8 @@ SECTIONS = (
     Section(failures, ("job",)),
     Section(passes, ("pass 1", "pass 2", "H.264")),
     Section(still_by_imagemagick, ("still by ImageMagick",)),
-    Section(jobs, ("job", "queue", "join")),
+    Section(jobs, ("job", "join")),
+    Section(queue, ("job", "queue", "join")),
     Section(delivery, ("delivery", "master", "H.264")),
     Section(matrix, ("matrix",)),
     Section(cores, ("cores",)),
@@ -86,11 +87,10 @@ def try_section(place, names):
 
 def main():
     pasted.expect_names()
-    lacking = {name: missing(name) for name in pasted.NAMES}
-    for name, tools in lacking.items():
-        if tools:
-            print(f"video: not tried, for want of {', '.join(tools)}: {name}")
-    good = [name for name, tools in lacking.items() if not tools]
+    lacking = {name: " and ".join(missing(name)) for name in pasted.NAMES}
+    for tools in sorted(set(lacking.values()) - {""}):
+        print(f"video: blocks not tried, for want of {tools}: {', '.join(name for name in lacking if lacking[name] == tools)}")
+    good = [name for name in lacking if not lacking[name]]
     places = [place for place, section in enumerate(SECTIONS) if set(section.blocks) <= set(good)]
     if not places:
         return

@@ -44,21 +44,30 @@ def cores(room):
 
 
 def jobs(room):
-    """A queue's jobs, each by itself, and their segments joined, with the times that setts gives them."""
+    """Jobs by themselves, and their segments joined."""
     clip = Clip((160, 90), 70, sounds=1)
     alone = make_shot(room, clip)
     frames = rgb(room / "in.mp4")
     expect("the job", alone == coloured(frames, curve_of_shot(frames, clip.size), 2), "one machine writes other bytes than the second version")
-    for block in "job", "queue", "join":
-        do(f"the {block}", BLOCKS[block], room)
+    do("the job", BLOCKS["job"], room)
+    # out of order, from another folder, and by the environment, with leading zeros
+    do("the jobs", "./job.sh 48 71 && ./job.sh 24 47 && cd target && FIRST=0000 LAST=0023 ../job.sh", room)
+    segment = room / "segments/00000024.mkv"
+    expect("a segment", rgb(segment) == cut(alone, clip.size, 24, 48) and not contents(segment).others, "not the frames asked for, alone")
+    do("the join", BLOCKS["join"], room)
     expect_clip("the join", room, clip, alone)
     try_bad_segments(room)
-    do("a job by itself", "cd target && FIRST=0008 LAST=0010 ../job.sh", room)
-    segment = room / "segments/00000008.mkv"
-    expect("a job by itself", rgb(segment) == cut(alone, clip.size, 8, 11) and not contents(segment).others, "not the frames asked for, alone")
-    shutil.rmtree(room / "segments")
+
+
+def queue(room):
+    """GNU parallel as the queue, here and on two machines; setts gives the segments of a clip that starts late their times."""
     clip = Clip((160, 90), 50, Fraction(25), 1, Fraction(1, 2), container="mpegts")
-    try_machines(room, clip, make_shot(room, clip))
+    alone = make_shot(room, clip)
+    for block in "job", "queue", "join":
+        do(f"the {block}", BLOCKS[block], room)
+    expect_clip("the queue", room, clip, alone)
+    shutil.rmtree(room / "segments")
+    try_machines(room, clip, alone)
 
 
 def try_bad_segments(room):

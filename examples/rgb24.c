@@ -12,8 +12,8 @@
  * This filter is for C programmers, who see here how the two calls are made for frames.
  *
  * The time that the calls took for each frame goes to standard error, beside the slot of a frame at 24 frames a second, and a
- * summary at the end; with -q only failures are told. Exit status 2: bad arguments; 1: anything else that failed. docs/CALLS.md
- * has the commands, between two of ffmpeg.
+ * summary at the end; with -q only failures are told. Exit status 2: bad arguments; 1: anything else that failed. docs/VIDEO.md
+ * has the commands around it.
  */
 #define _POSIX_C_SOURCE 200809L
 #include "cube_balance.h"

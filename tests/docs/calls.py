@@ -16,9 +16,9 @@ CALLS, RULES, PROMISES = DOCS / "CALLS.md", DOCS / "RULES.md", DOCS / "PROMISES.
 HEADER = pathlib.Path("include/cube_balance.h")
 # for each call, the definitions whose checks it makes, one after the other
 CHECKS = {
-    "measure": [("shot/specs/Shot.antt", "measure_checks")],
-    "fix": [("shot/specs/Shot.antt", "fix_checks")],
-    "colour": [("shot/specs/Shot.antt", "colour_checks")],
+    "shot.measure": [("shot/specs/Shot.antt", "measure_checks")],
+    "shot.fix": [("shot/specs/Shot.antt", "fix_checks")],
+    "shot.colour": [("shot/specs/Shot.antt", "colour_checks")],
     "move_one": [("pixel/specs/MoveOne.antt", "move_checks")],
     "cube_balance_curve": [("host/specs/Host.antt", "curve_checks"), ("strip_curve/specs/OneStrip.antt", "strip_checks")],
     "cube_balance_colour": [("host/specs/Host.antt", "colour_checks")],
@@ -115,9 +115,9 @@ def number_faults():
 def filter_faults():
     """What is wrong with the orders that the page gives for the two filters. A shot that is opened is never refused 1."""
     measuring, colouring = (read(CRATES / file) for file in ("stream_curve/specs/StreamCurve.antt", "stream_colouring/specs/StreamColour.antt"))
-    pieces = sorted(set(order_of("measure")) - {1}, reverse=True)
+    pieces = sorted(set(order_of("shot.measure")) - {1}, reverse=True)
     due = {
-        "`measure`": checked(measuring, "curve_checks") + pieces + order_of("fix")[-1:],
+        "`measure`": checked(measuring, "curve_checks") + pieces + order_of("shot.fix")[-1:],
         "`colour`": [number for name in ("opening_checks", "setting_checks", "stream_checks") for number in checked(colouring, name)],
     }
     rows = {row[0]: [int(number) for number in re.findall(r"\d+", row[1])] for row in table(CALLS, ["filter", "refused, in this order"]).rows}
@@ -163,7 +163,7 @@ def book_faults():
         yield f"{RULES}: the book has not the four calls"
     for row in rows:
         call, refused = row[0], [int(number) for number in re.findall(r"(?:^|; )(\d+) ", row[1])]
-        if refused != (order_of(call) if call in CHECKS else []):
+        if refused != (order_of(f"shot.{call}") if f"shot.{call}" in CHECKS else []):
             yield f"{RULES}: the book refuses {call} by {refused}"
 
 

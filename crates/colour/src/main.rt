@@ -1,5 +1,5 @@
-// The program `colour`: reads a stream of pixels from standard input, and writes it to standard output, coloured by a curve from a file. What
-// is decided is decided in `filter_words` and `stream_colouring`.
+// The program `colour`: reads a stream of pixels from standard input, and writes it to standard output, coloured by a curve from a file. The
+// arguments are read in `filter_words`, the stream is coloured in `stream_colouring`.
 #![tactic(auto)]
 
 use filter_words::Job;

@@ -1,5 +1,5 @@
-// The program `measure`: reads a stream of pixels from standard input, as one shot, and writes the shot's curve to standard output. What is
-// decided is decided in `filter_words` and `stream_curve`.
+// The program `measure`: reads a stream of pixels from standard input, as one shot, and writes the shot's curve to standard output. The
+// arguments are read in `filter_words`, the stream is measured in `stream_curve`.
 #![tactic(auto)]
 
 use pieces::Failure;

@@ -5,7 +5,7 @@ that `balance` and `replay` give its pixels.
 import pathlib
 import struct
 
-from exact_filters import COLOUR, HOLD, MEASURE, MIX, OFF, STOPS, Job, words_of
+from exact_filters import COLOUR, HOLD, MEASURE, MIX, OFF, STOPS, words_of
 from inputs import random_job, short
 from trial import run
 
@@ -15,12 +15,12 @@ OPENING = ["open 1\n", "measure 1 {strip}\n", "fix 1 {choice}\n", "colour 1 {met
 
 def filtered(commands, folder, stream, choice, job_words):
     """What the filters make of a stream one after the other; the answer of the first that refuses it."""
-    curve = run([*commands[MEASURE], *choice], input=stream)
+    curve = run([*commands[MEASURE], *choice], stream)
     if curve.status:
         return curve
     path = folder / "filtered.curve"
     path.write_bytes(curve.written)
-    return run([*commands[COLOUR], path, *job_words], input=stream)
+    return run([*commands[COLOUR], path, *job_words], stream)
 
 
 def with_balance(group, commands, folder, balance, rng):
@@ -31,7 +31,7 @@ def with_balance(group, commands, folder, balance, rng):
         pictures[f"random {number}"] = b"P6\n%d %d\n255\n" % (width, height) + rng.randbytes(3 * width * height)
     for name, picture in pictures.items():
         header = b"\n".join(picture.split(b"\n", 3)[:3]) + b"\n"
-        balanced = run([balance], input=picture)
+        balanced = run([balance], picture)
         for choice, words in ([], []), (["1"], ["2"]), (["1"], ["2", "mix", "256"]):
             came = filtered(commands, folder, picture[len(header) :], choice, words)
             if (came.status, header + came.written, came.said) != (0, balanced.written, b""):
@@ -56,7 +56,7 @@ def called(replay, stream, choice, job):
     """What a list of calls is answered: the number of its first refusal, or 0, and the bytes of the colouring."""
     strip, room = stream.hex() or "-", "00" * len(stream) or "-"
     lines = [line.format(strip=strip, room=room, choice=choice, method=job.method, dial=dial_of(job)) for line in OPENING]
-    answers = run([replay], input="".join(lines).encode()).written.decode().splitlines()
+    answers = run([replay], "".join(lines).encode()).written.decode().splitlines()
     number = next((int(answer.split()[0]) for answer in answers if answer.split()[0] != "0"), 0)
     return number, b"" if number else bytes.fromhex(answers[-1].split()[1].replace("-", ""))
 

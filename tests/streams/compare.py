@@ -21,7 +21,7 @@ import limits
 import messages
 import pipelines
 import terminal
-from exact_filters import COLOUR, MEASURE, PIECE, Answer, Job, coloured, curve_bytes, curve_of, measured, refused, tally, words_of
+from exact_filters import COLOUR, MEASURE, PIECE, Job, coloured, curve_bytes, curve_of, measured, refused, tally, words_of
 from trial import Group
 
 DEFAULT_SEED = 20170101

@@ -1,12 +1,13 @@
 """One stream fed in many ways: all must come to the same bytes, status and words."""
 
 import os
-import subprocess
+import select
+import sys
 import threading
 import time
 
 from exact_filters import COLOUR, MEASURE, PIECE, Answer, coloured_pixels, not_read, not_written
-from trial import LONGEST_RUN, Came, ended, pipe, run, run_fed, started, write_all
+from trial import LONGEST_RUN, begun, ended, feed_and_close, pipe, run, run_fed, started, write_all
 
 SHORT_SIZES = 1, 2, 3, 4, 5, 7, 100
 # pieces of these lengths straddle pixels and the pieces of 196,608 bytes in which a stream is taken
@@ -49,32 +50,28 @@ def in_many_ways(group, rng, start, program, words, stream, answer):
 def read_slowly(place, rng):
     """What comes through a pipe, little by little."""
     came = b""
-    while piece := os.read(place, rng.randint(1, 20000)):
+    while select.select([place], [], [], LONGEST_RUN)[0]:
+        piece = os.read(place, rng.randint(1, 20000))
+        if not piece:
+            return came
         came += piece
         time.sleep(0.0005)
-    return came
+    sys.exit(f"streams: FAILED: nothing comes for {LONGEST_RUN} s after {len(came)} bytes")
 
 
 def into_a_slow_reader(group, rng, command, stream, answer):
     """The output is taken little by little through a small pipe, so that what the filter writes does not fit at once."""
-    source, place = pipe(4096)
-    with subprocess.Popen(command, stdin=subprocess.PIPE, stdout=place, stderr=subprocess.PIPE) as child:
-        os.close(place)
-        feeder = threading.Thread(target=feed_child, args=(child, stream), daemon=True)
-        feeder.start()
-        written = read_slowly(source, rng)
-        said = child.stderr.read()
-        status = child.wait(LONGEST_RUN)
+    (source, place), (written, output) = pipe(), pipe(4096)
+    child = begun(command, stdin=source, stdout=output)
     os.close(source)
-    group.judge("into a slow reader", answer, Came(status, written, said))
-
-
-def feed_child(child, stream):
-    try:
-        child.stdin.write(stream)
-        child.stdin.close()
-    except BrokenPipeError:
-        pass
+    os.close(output)
+    feeder = threading.Thread(target=feed_and_close, args=(place, [stream]), daemon=True)
+    feeder.start()
+    slowly = read_slowly(written, rng)
+    came = ended(child)
+    feeder.join()
+    os.close(written)
+    group.judge("into a slow reader", answer, came._replace(written=slowly))
 
 
 def unreadable(group, program, command):
@@ -91,8 +88,7 @@ def run_until_failure(command, stream):
     source, place = pipe()
     os.set_blocking(source, False)
     write_all(place, stream)
-    child = subprocess.Popen(command, stdin=source, stdout=subprocess.PIPE, stderr=subprocess.PIPE)
-    came = ended(child, command)
+    came = run(command, stdin=source)
     os.close(source)
     os.close(place)
     return came
@@ -115,19 +111,18 @@ def unwritable(group, program, command, stream, read):
     answer = not_written(program, read)
     for output in ">/dev/full", ">&-":
         case = f"{program}: standard output is {output}"
-        group.judge(case, answer, run(["bash", "-c", f'exec "$0" "$@" {output}', *command], input=stream))
+        group.judge(case, answer, run(["bash", "-c", f'exec "$0" "$@" {output}', *command], stream))
     source, place = pipe()
     os.close(source)
-    done = subprocess.run(command, input=stream, stdout=place, stderr=subprocess.PIPE, timeout=LONGEST_RUN, check=False)
+    group.judge(f"{program}: nobody reads its output", answer, run(command, stream, stdout=place))
     os.close(place)
-    group.judge(f"{program}: nobody reads its output", answer, Came(done.returncode, b"", done.stderr))
 
 
 def written_in_part(group, folder, program, command, stream, read, written):
     """An output of which a part is written, here a file that may have 1,024 bytes, is told too."""
     path = folder / "in part"
     limited = 'trap "" XFSZ; ulimit -f 1; place=$0; exec "$@" >"$place"'
-    came = run(["bash", "-c", limited, path, *command], input=stream)
+    came = run(["bash", "-c", limited, path, *command], stream)
     answer = not_written(program, read)._replace(written=written[:1024])
     group.judge(f"{program}: standard output has room for 1024 bytes", answer, came._replace(written=path.read_bytes()))
 
@@ -135,13 +130,13 @@ def written_in_part(group, folder, program, command, stream, read, written):
 def unheard(group, command, answer):
     """Where standard error takes nothing, the status and the output are the same."""
     for output in "2>/dev/full", "2>&-":
-        came = run(["bash", "-c", f'exec "$0" "$@" {output}', *command], input=b"abcd")
+        came = run(["bash", "-c", f'exec "$0" "$@" {output}', *command], b"abcd")
         group.judge(f"{command[0].rpartition('/')[2]}: standard error is {output}", answer._replace(said=b""), came)
 
 
 def early_end(group, command, curve):
     """A filter that refuses before its stream ends at once, also where the stream is open and nothing comes."""
     child, place = started([*command, curve, "3"])
-    came = ended(child, command)
+    came = ended(child)
     os.close(place)
     group.judge("refused while nothing comes", Answer(1, b"", b"refused 7\ncolour: 0 pixels and 0 bytes were read\n"), came)

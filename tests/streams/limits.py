@@ -11,7 +11,7 @@ import select
 import sys
 import threading
 
-from exact_filters import COLOUR, MEASURE, MOST_PIXELS, PIECE, TONES, Answer, Job, coloured_pixels, curve_bytes, curve_of, refused
+from exact_filters import COLOUR, MEASURE, MOST_PIXELS, PIECE, TONES, Answer, coloured_pixels, curve_bytes, curve_of, refused
 from inputs import colourful, ramp
 from trial import LONGEST_RUN, difference, ended, feed, run_fed, started
 
@@ -74,7 +74,7 @@ def measure_in_little_memory(group, command):
     feed(place, ramps(LIMIT - PIECE), one_by_one=True)
     after = most_memory(child)
     os.close(place)
-    came = ended(child, command)
+    came = ended(child)
     tally = [one + other for one, other in zip(ramps_tally(PIECE // 3), ramps_tally((LIMIT - PIECE) // 3))]
     group.judge("the longest shot", Answer(0, curve_bytes(curve_of(tally, 1))), came)
     told_growth(group, MEASURE, LIMIT, before, after)
@@ -105,8 +105,10 @@ class Reader:
             if not select.select([self.child.stdout], [], [], LONGEST_RUN)[0]:
                 sys.exit(f"streams: FAILED: nothing comes for {LONGEST_RUN} s after {self.place} bytes")
             data = os.read(self.child.stdout.fileno(), min(READ, end - self.place))
+            if not data:
+                return f"nothing comes after {self.place} bytes"
             due = self.pattern[self.place % self.period :][: len(data)]
-            if not data or data != due:
+            if data != due:
                 return f"from byte {self.place} on: {difference(bytes(due), data)}"
             self.place += len(data)
         return None
@@ -132,7 +134,7 @@ def longer_than_a_shot(group, command, curve, entries, job, tail):
     after = most_memory(child)
     feed(place, [tail])
     os.close(place)
-    came = ended(child, command)
+    came = ended(child)
     case = f"colour {job}, {length} bytes and {len(tail)}"
     if wrong:
         group.fault(case, wrong)

@@ -133,22 +133,22 @@ def curve_names(group, command, folder, curve, stream):
     (folder / "below").mkdir()
     for name in "a b.curve", "-1", "off", "2", "\u00e4'\"$(x).curve", "below/a.curve", "./--help":
         (folder / name).write_bytes(curve)
-        group.judge(f"the curve {name}", answer, run([*command, name], input=stream, cwd=folder))
-        group.judge(f"the curve {name} by its whole path", answer, run([*command, str(folder / name)], input=stream))
+        group.judge(f"the curve {name}", answer, run([*command, name], stream, cwd=folder))
+        group.judge(f"the curve {name} by its whole path", answer, run([*command, str(folder / name)], stream))
     for name in "missing", "below", "a b.curve/x", "", "missing folder/a.curve", "off ", "x" * 300:
-        group.judge(f"the curve {name!r}", no_curve(name), run([*command, name], input=stream, cwd=folder))
+        group.judge(f"the curve {name!r}", no_curve(name), run([*command, name], stream, cwd=folder))
     # the words are looked at before the curve, and the curve before the numbers
-    group.judge("no curve and bad words", misused(COLOUR, TOO_MANY), run([*command, "missing", OFF, "1"], input=stream))
-    group.judge("no curve and no such method", no_curve("missing"), run([*command, "missing", "3"], input=stream, cwd=folder))
+    group.judge("no curve and bad words", misused(COLOUR, TOO_MANY), run([*command, "missing", OFF, "1"], stream))
+    group.judge("no curve and no such method", no_curve("missing"), run([*command, "missing", "3"], stream, cwd=folder))
     group.expect_from_file("a curve without an end", [*command, "/dev/zero"], stream, refused(COLOUR, 10, 0))
     group.expect_from_file("an empty curve", [*command, "/dev/null"], stream, refused(COLOUR, 10, 0))
 
 
 def not_text(group, commands, curve_file):
     """An argument that is no UTF-8 is no word, and no curve's name either."""
-    group.judge("choice \\xff", misused(MEASURE, NOT_READ), run([*commands[MEASURE], b"\xff"], input=b""))
-    group.judge("curve \\xff", misused(COLOUR, NOT_READ), run([*commands[COLOUR], b"\xff"], input=b""))
-    group.judge("method \\xff", misused(COLOUR, NOT_READ), run([*commands[COLOUR], curve_file, b"2\xff"], input=b""))
+    group.judge("choice \\xff", misused(MEASURE, NOT_READ), run([*commands[MEASURE], b"\xff"], b""))
+    group.judge("curve \\xff", misused(COLOUR, NOT_READ), run([*commands[COLOUR], b"\xff"], b""))
+    group.judge("method \\xff", misused(COLOUR, NOT_READ), run([*commands[COLOUR], curve_file, b"2\xff"], b""))
 
 
 def helps(group, commands):
@@ -156,5 +156,5 @@ def helps(group, commands):
     for program, command in commands.items():
         answer = Answer(0, USAGE[program].encode() + b"\n")
         group.expect_from_file(f"{program} --help", [*command, "--help"], b"abc", answer)
-        came = run(["bash", "-c", 'exec "$0" --help >/dev/full', *command], input=b"")
+        came = run(["bash", "-c", 'exec "$0" --help >/dev/full', *command], b"")
         group.judge(f"{program} --help on a full disk", Answer(1), came._replace(said=b""))

@@ -3,20 +3,19 @@
 import os
 import pty
 import re
-import subprocess
 import termios
 import threading
 import time
 import tty
 
-from trial import LONGEST_RUN, Came, ended, pipe, write_all
+from trial import LONGEST_RUN, begun, ended, pipe, write_all
 
 PIECE = b"~0a@ !x\n" * 125  # of 1,000 bytes, so that pixels are cut, and of lines, which a terminal brings as they are
 END_OF_INPUT = b"\4"  # at the start of a line
 PAUSE = 0.1  # seconds
 TOLD = re.compile(rb"\r(\d+) pixels and ([012]) bytes were read")
-# the words that follow stand on the last line that was told, or on one of their own
-SAID = re.compile(rb"((?:%s)+)\n?(.*)" % re.sub(rb"[()]", b"", TOLD.pattern), re.S)
+# the last line that was told is ended, and the words that follow stand on one of their own
+SAID = re.compile(rb"((?:%s)+)\n(.*)" % re.sub(rb"[()]", b"", TOLD.pattern), re.S)
 
 
 class Terminal:
@@ -75,8 +74,8 @@ def bring_lines(terminal):
 def on_a_terminal(group, command, tail, answer_to):
     """A stream that comes slowly until it was told of twice, and then a tail; `answer_to` says what the filter answers to a stream."""
     terminal, (source, place) = Terminal(), pipe()
-    begun = time.monotonic()
-    child = subprocess.Popen(command, stdin=source, stdout=subprocess.PIPE, stderr=terminal.end)
+    start = time.monotonic()
+    child = begun(command, stdin=source, stderr=terminal.end)
     os.close(source)
     terminal.start()
     fed = feed_until(place, lambda: len(TOLD.findall(terminal.came)) >= 2)
@@ -86,15 +85,15 @@ def on_a_terminal(group, command, tail, answer_to):
     except BrokenPipeError:
         pass
     os.close(place)
-    status, written, _ = ended(child, command)
-    took = time.monotonic() - begun
+    came = ended(child)
+    took = time.monotonic() - start
     said = terminal.all_that_came()
     case = f"{command[0].rpartition('/')[2]} on a terminal, {len(tail)} bytes at the end"
     found = SAID.fullmatch(said)
     if not found:
         group.fault(case, f"came {said!r}")
         return
-    group.judge(case, answer, Came(status, written, found[2]))
+    group.judge(case, answer, came._replace(said=found[2]))
     for what in told_faults(TOLD.findall(found[1]), fed + len(tail), took):
         group.fault(case, f"{what}: {said!r}")
 
@@ -114,15 +113,14 @@ def elsewhere(group, command, answer_to):
     """A stream that comes for two and a half seconds, from one terminal to another, where standard error is none."""
     keyboard, screen = Terminal(), Terminal()
     bring_lines(keyboard.end)
-    child = subprocess.Popen(command, stdin=keyboard.end, stdout=screen.end, stderr=subprocess.PIPE)
+    child = begun(command, stdin=keyboard.end, stdout=screen.end)
     screen.start()
     last = time.monotonic() + 2.5
     fed = feed_until(keyboard.screen, lambda: time.monotonic() > last)
     # whole lines and whole pixels
     tail = b"a\n"[2 - -fed % 3 :]
     write_all(keyboard.screen, tail + END_OF_INPUT)
-    status, _, said = ended(child, command)
-    came = Came(status, screen.all_that_came(), said)
+    came = ended(child)._replace(written=screen.all_that_came())
     os.close(keyboard.screen)
     os.close(keyboard.end)
     group.judge(f"{command[0].rpartition('/')[2]} where standard error is no terminal", answer_to(stream_of(fed, tail)), came)

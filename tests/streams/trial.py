@@ -3,6 +3,7 @@
 import fcntl
 import os
 import select
+import signal
 import struct
 import subprocess
 import sys
@@ -62,7 +63,7 @@ class Group:
 
     def expect(self, case, command, stream, answer):
         """The stream comes through a pipe, all that fits at once."""
-        self.judge(case, answer, run(command, input=stream))
+        self.judge(case, answer, run(command, stream))
 
     def expect_from_file(self, case, command, stream, answer):
         """The stream is a file, and no more of it is taken than is said."""
@@ -81,12 +82,27 @@ class Group:
         print(f"streams: {self.name}: {self.runs} runs" + (f", {self.faults} FAULTS" if self.faults else ""), flush=True)
 
 
-def run(command, **streams):
+def begun(command, **streams):
+    """A command that has begun. It has a session of its own, so that one that does not end can be ended with all that it has begun."""
+    streams = {"stdin": subprocess.DEVNULL, "stdout": subprocess.PIPE, "stderr": subprocess.PIPE, **streams}
+    return subprocess.Popen(command, start_new_session=True, **streams)
+
+
+def ended(child, given=None):
+    """How a command ends, given these bytes if any; of an output that is not its pipe there is nothing."""
     try:
-        done = subprocess.run(command, capture_output=True, timeout=LONGEST_RUN, check=False, **streams)
+        written, said = child.communicate(given, timeout=LONGEST_RUN)
     except subprocess.TimeoutExpired:
-        sys.exit(f"streams: FAILED: {command}: not done after {LONGEST_RUN} s")
-    return Came(done.returncode, done.stdout, done.stderr)
+        os.killpg(child.pid, signal.SIGKILL)
+        sys.exit(f"streams: FAILED: {child.args}: not done after {LONGEST_RUN} s")
+    return Came(child.returncode, written or b"", said or b"")
+
+
+def run(command, given=None, **streams):
+    """Runs a command; it is given these bytes through a pipe, all that fits at once."""
+    if given is not None:
+        streams["stdin"] = subprocess.PIPE
+    return ended(begun(command, **streams), given)
 
 
 def run_from_file(command, stream, **streams):
@@ -131,7 +147,7 @@ def feed(place, pieces, one_by_one=False):
         pass
 
 
-def feed_and_close(place, pieces, one_by_one):
+def feed_and_close(place, pieces, one_by_one=False):
     feed(place, pieces, one_by_one)
     os.close(place)
 
@@ -146,18 +162,9 @@ def pipe(size=PIPE_SIZE):
 def started(command, size=PIPE_SIZE):
     """A filter that waits for its stream, and the end of the pipe to write it to."""
     source, place = pipe(size)
-    child = subprocess.Popen(command, stdin=source, stdout=subprocess.PIPE, stderr=subprocess.PIPE)
+    child = begun(command, stdin=source)
     os.close(source)
     return child, place
-
-
-def ended(child, command):
-    try:
-        written, said = child.communicate(timeout=LONGEST_RUN)
-    except subprocess.TimeoutExpired:
-        child.kill()
-        sys.exit(f"streams: FAILED: {command}: not done after {LONGEST_RUN} s")
-    return Came(child.returncode, written, said)
 
 
 def run_fed(command, pieces, one_by_one=False, size=PIPE_SIZE):
@@ -165,6 +172,6 @@ def run_fed(command, pieces, one_by_one=False, size=PIPE_SIZE):
     child, place = started(command, size)
     feeder = threading.Thread(target=feed_and_close, args=(place, pieces, one_by_one), daemon=True)
     feeder.start()
-    came = ended(child, command)
+    came = ended(child)
     feeder.join()
     return came

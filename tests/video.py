@@ -40,7 +40,7 @@ class Section(NamedTuple):
 SECTIONS = (
     Section(sampled, ("pass 1",)),
     Section(failures, ("job",)),
-    Section(passes, ("pass 1", "pass 2", "H.264")),
+    Section(passes, ("pass 1", "pass 2", "check", "H.264")),
     Section(still_by_imagemagick, ("still by ImageMagick",)),
     Section(jobs, ("job", "join")),
     Section(queue, ("job", "queue", "join")),

@@ -105,6 +105,8 @@ def try_untagged(room, sides):
     expect("ffmpeg without tags", distance < 1, f"{float(distance):.1f} code values from BT.601")
     status, wrote, said = run(BLOCKS["pass 1"], room)
     expect("a clip without tags", status and "in.mp4 has no tag" in said, f"status {status}: {said}")
+    status, _, said = run(f"matrix=BT709\n{SOURCED}decode in.mp4", room)
+    expect("a matrix that is none", status and "in.mp4 has no tag" in said, f"status {status}: {said}")
     expect("a clip without tags", not (room / "shot.curve").read_bytes() and not wrote, "it is measured")
 
 

@@ -50,6 +50,10 @@ def jobs(room):
     frames = rgb(room / "in.mp4")
     expect("the job", alone == coloured(frames, curve_of_shot(frames, clip.size), 2), "one machine writes other bytes than the second version")
     do("the job", BLOCKS["job"], room)
+    for words in "5 x", "48", "90 95", "10 5":
+        status, _, said = run(f"./job.sh {words}", room)
+        expect("a job without a frame", status, f"status 0 for {words}: {said}")
+    expect("a job without a frame", not list((room / "segments").glob("*.mkv")), "a segment has its name")
     # out of order, from another folder, and by the environment, with leading zeros
     do("the jobs", "./job.sh 48 71 && ./job.sh 24 47 && cd target && FIRST=0000 LAST=0023 ../job.sh", room)
     segment = room / "segments/00000024.mkv"

@@ -19,6 +19,7 @@ def try_passes(room, case, clip, second="pass 2"):
     expect(case, (room / "shot.curve").read_bytes() == packed(curve), "the curve is not that of the second version")
     do(case, BLOCKS[second], room)
     due = coloured(frames, curve, 2)
+    do(f"{case}: the check", BLOCKS["check"], room)
     expect_clip(case, room, clip, due)
     return frames, due
 
@@ -31,6 +32,7 @@ def passes(room):
     small = Clip((160, 98), 3, encoder=WHOLE, container="matroska")
     frames, full = try_passes(room, "a clip in RGB", small)
     do("half the balance", BLOCKS["pass 2"].replace("shot.curve", "shot.curve mix 128"), room)
+    expect("half the balance", run(BLOCKS["check"], room)[0] == 1, "the check takes it for the balance")
     expect_clip("half the balance", room, small, bytes((sample + other + 1) // 2 for sample, other in zip(frames, full)))
     try_turned(room)
     try_cut_short(room)

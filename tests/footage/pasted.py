@@ -14,7 +14,7 @@ PAGE, CALLS = DOCS / "VIDEO.md", DOCS / "CALLS.md"
 LINKED = "bin", "include", "examples", "target/lib"
 # the blocks of the page, in its order
 NAMES = (
-    "functions", "pass 1", "pass 2", "H.264", "matrix", "reel", "one curve", "many clips", "cores", "job", "queue", "join", "delivery",
+    "functions", "pass 1", "pass 2", "check", "H.264", "matrix", "reel", "one curve", "many clips", "cores", "job", "queue", "join", "delivery",
     "master", "still by ImageMagick", "still by ffmpeg", "even",
 )
 SOURCED = ". ./video.sh\n"

@@ -57,7 +57,8 @@ def words_of(job):
 
 
 def seen(read):
-    return "%d pixels and %d bytes were read" % divmod(read, 3)
+    pixels, over = divmod(read, 3)
+    return f"{pixels} pixels and {over} of 3 bytes were read" if over else f"{pixels} pixels were read"
 
 
 def refused(program, number, read, written=b""):

@@ -139,4 +139,4 @@ def early_end(group, command, curve):
     child, place = started([*command, curve, "3"])
     came = ended(child)
     os.close(place)
-    group.judge("refused while nothing comes", Answer(1, b"", b"refused 7\ncolour: 0 pixels and 0 bytes were read\n"), came)
+    group.judge("refused while nothing comes", Answer(1, b"", b"refused 7\ncolour: 0 pixels were read\n"), came)

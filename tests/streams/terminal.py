@@ -13,9 +13,9 @@ from trial import LONGEST_RUN, begun, ended, pipe, write_all
 PIECE = b"~0a@ !x\n" * 125  # of 1,000 bytes, so that pixels are cut, and of lines, which a terminal brings as they are
 END_OF_INPUT = b"\4"  # at the start of a line
 PAUSE = 0.1  # seconds
-TOLD = re.compile(rb"\r(\d+) pixels and ([012]) bytes were read")
+TOLD = re.compile(rb"\r(\d+) pixels(?: and ([12]) of 3 bytes)? were read")
 # the last line that was told is ended, and the words that follow stand on one of their own
-SAID = re.compile(rb"((?:%s)+)\n(.*)" % re.sub(rb"[()]", b"", TOLD.pattern), re.S)
+SAID = re.compile(rb"((?:%s)+)\n(.*)" % re.sub(rb"\((?!\?)", b"(?:", TOLD.pattern), re.S)
 
 
 class Terminal:
@@ -100,7 +100,7 @@ def on_a_terminal(group, command, tail, answer_to):
 
 def told_faults(told, length, took):
     """What is wrong with amounts that were told. A filter takes each piece as it comes."""
-    amounts = [3 * int(pixels) + int(over) for pixels, over in told]
+    amounts = [3 * int(pixels) + int(over or 0) for pixels, over in told]
     if not 2 <= len(amounts) <= took:
         yield f"{len(amounts)} times in {took:.1f} s"
     if amounts != sorted(set(amounts)) or amounts[-1] > length:

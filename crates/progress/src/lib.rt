@@ -18,7 +18,10 @@ impl fmt::Display for Amount {
     fn fmt<W: fmt::Write>(&self, f: &mut fmt::Formatter<W>) -> fmt::Result {
         let pixels = self.bytes / 3;
         let over = self.bytes % 3;
-        write!(f, "{pixels} pixels and {over} bytes were read")
+        if over == 0 {
+            return write!(f, "{pixels} pixels were read");
+        }
+        write!(f, "{pixels} pixels and {over} of 3 bytes were read")
     }
 }
 

@@ -48,7 +48,7 @@ stream_curve choice stream =
     let number = first_of (curve_checks choice (stream_measured stream).number (stream_fixed choice stream).number) in
     record { number = number; bytes = if_accepted number (curve_bytes (stream_fixed choice stream).shot.curve) [] }
 
--- An answer tells so; one that the input could not be read tells nothing. (What a read that fails leaves no contract of a reader says.)
+-- An answer tells so; one that the input could not be read tells nothing, since no contract of a reader says when a read fails.
 abbrev pub Tells : StreamCurve → Result (List ℕ) Failure → Type 0
 Tells told (Ok bytes) = record { number = 0; bytes = bytes } ≡ told
 Tells told (Err (Refused number)) = record { number = number; bytes = [] } ≡ told

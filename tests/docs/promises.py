@@ -23,7 +23,7 @@ IMPL = re.compile(r"^impl(?:<[^>]*>)? (\w+)", re.M)
 CALL = re.compile(r"(?:(\w+)(?:::|\.))(\w+)\(([^)]*)\)")
 CONVERSION = re.compile(r"^impl (?:Try)?From<([^>]+)> for ([\w\[\]; ]+) \{\n(?:    type Error = \w+;\n\n)?    ghost (?:try_)?from_gives = \{ (.*) \};$", re.M)
 # what a page calls a value whose methods it names, or its type, and the crate of these; in the crate's contracts it is `self`
-VALUES = {"shot": "shot", "writer": "text", "pixel": "pixel", "line": "lines", "header": "netpbm", "word": "words", "found": "words", "shots": "interpreter", "progress": "progress"}
+VALUES = {"shot": "shot", "writer": "text", "pixel": "pixel", "line": "lines", "header": "netpbm", "word": "words", "found": "words", "shots": "interpreter", "progress": "progress", "program": "progress"}
 TYPES = {"Shot": "shot", "Writer": "text", "Shots": "interpreter", "Progress": "progress"}
 
 

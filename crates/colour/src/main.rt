@@ -3,8 +3,7 @@
 #![tactic(auto)]
 
 use filter_words::Job;
-use pieces::Failure;
-use progress::{Amount, Progress};
+use progress::{Program, Progress};
 use reading::Filled;
 use std::io::IsTerminal;
 use std::process::ExitCode;
@@ -13,31 +12,10 @@ use std::{env, fs};
 // One byte more than a curve has: so many bytes of a file tell its curve from a longer one.
 const ROOM: usize = curve_bytes::CURVE_LENGTH + 1;
 
-const USAGE: &str = "usage: colour CURVE [METHOD] [off | mix K | hold V] <in.rgb >out.rgb";
-
-// Says how the program is called.
-fn help(rt: &HostRuntime) -> ExitCode {
-    match rt.println(USAGE) {
-        Ok(()) => ExitCode::SUCCESS,
-        Err(_) => ExitCode::FAILURE,
-    }
-}
-
-// The arguments cannot be used.
-fn misused(rt: &HostRuntime, reason: &str) -> ExitCode {
-    let usage = USAGE;
-    let _ = eprintln!(rt; "colour: {reason}; {usage}");
-    ExitCode::from(2)
-}
-
-// The stream is not coloured to its end. So much of it was read.
-fn failed(rt: &HostRuntime, failure: Failure, amount: Amount) -> ExitCode {
-    let _ = match failure {
-        Failure::Refused(_) => eprintln!(rt; "{failure}\ncolour: {amount}"),
-        _ => eprintln!(rt; "colour: {failure}; {amount}"),
-    };
-    ExitCode::FAILURE
-}
+const PROGRAM: Program = Program {
+    name: "colour",
+    usage: "usage: colour CURVE [METHOD] [off | mix K | hold V] <in.rgb >out.rgb",
+};
 
 // Colours the stream by the curve.
 fn run(rt: &HostRuntime, curve: &[u8], job: Job) -> ExitCode {
@@ -52,7 +30,7 @@ fn run(rt: &HostRuntime, curve: &[u8], job: Job) -> ExitCode {
     let amount = stream.end();
     match done {
         Ok(()) => ExitCode::SUCCESS,
-        Err(failure) => failed(rt, failure, amount),
+        Err(failure) => PROGRAM.failed(rt, failure, amount),
     }
 }
 
@@ -76,21 +54,21 @@ fn run_by_file(rt: &HostRuntime, name: &str, job: Job) -> ExitCode {
 // What the arguments name: the curve's file, and then how to colour.
 fn main(rt: HostRuntime) -> ExitCode {
     let Ok(mut arguments) = env::args(&rt) else {
-        return misused(&rt, "the arguments cannot be read");
+        return PROGRAM.misused(&rt, "the arguments cannot be read");
     };
     // the program's name
     arguments.next();
     let Some(name) = arguments.next() else {
-        return misused(&rt, "no curve is named");
+        return PROGRAM.misused(&rt, "no curve is named");
     };
     if name.as_str() == "--help" {
-        return help(&rt);
+        return PROGRAM.help(&rt);
     }
     let Ok(line) = filter_words::line_of(arguments, rt.alloc()) else {
-        return misused(&rt, "no memory for the arguments");
+        return PROGRAM.misused(&rt, "no memory for the arguments");
     };
     match filter_words::read_job(line.as_bytes()) {
         Ok(job) => run_by_file(&rt, name.as_str(), job),
-        Err(fault) => misused(&rt, answers::reason(fault)),
+        Err(fault) => PROGRAM.misused(&rt, answers::reason(fault)),
     }
 }

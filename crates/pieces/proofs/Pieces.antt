@@ -54,7 +54,3 @@ pixels_of_whole (r ∷ g ∷ b ∷ rest) =
 pub bytes_append : (ps qs : List Pixel) → bytes_of (ps ++ qs) ≡ bytes_of ps ++ bytes_of qs
 bytes_append [] qs = refl
 bytes_append (p ∷ ps) qs = ap (λ (l : List ℕ). p.r ∷ p.g ∷ p.b ∷ l) (bytes_append ps qs)
-
--- so many bytes are whole pixels
-pub whole_part : (n : ℕ) → (n - n % 3) % 3 ≡ 0
-whole_part n = omega arith

@@ -19,7 +19,7 @@ ghost use Rattle.rounds.specs.Inner.{IsHead, own_shot, ColouredByHead};
 
 use dial::Dial;
 use shot::{Answer, Shot};
-use std::io::{Read, Write};
+use std::io::Read;
 use std::{fmt, io};
 
 // The bytes of the longest strip.
@@ -109,10 +109,11 @@ fn colour_by_head(head: Head, strip: &[u8], destination: &mut [u8]) -> Answer
     answer
 }
 
-// The number on a line, and then the bytes.
-fn write_answer(writer: &mut impl Write, number: u32, bytes: &[u8]) -> io::Result<()> {
-    writeln!(writer, "{number}")?;
-    writer.write_all(bytes)
+// The number on a line, and then the bytes. (By `println!`, which writes the whole line at once: `writeln!` would write the line feed by
+// itself.)
+fn write_answer(out: &impl Print, number: u32, bytes: &[u8]) -> io::Result<()> {
+    println!(out; "{number}")?;
+    out.write_all(bytes)
 }
 
 // Room for a strip, since nothing allocates. Its contract gives only the length, so that no proof has so many zeros to look at.
@@ -128,25 +129,26 @@ fn at_end(reader: &mut impl Read) -> bool {
 }
 
 // Colours the strip that the input brings, and writes what comes of it.
-fn run(reader: &mut impl Read, writer: &mut impl Write) -> Result<(), Failure> {
+fn run(reader: &mut impl Read, out: &impl Print) -> Result<(), Failure> {
     let mut head = [0u8; 8];
+    // both before the first return: a buffer that is made after one is zeroed twice
+    let mut strip = strip_buffer();
+    let mut destination = strip_buffer();
     if reading::read_full(reader, &mut head) < head.len() {
         return Err(Failure::NoHead);
     }
     let head = Head::try_from(head)?;
-    let mut strip = strip_buffer();
     let size = reading::read_full(reader, &mut strip);
     if !at_end(reader) {
         return Err(Failure::StripTooLong);
     }
-    let mut destination = strip_buffer();
     let answer = colour_by_head(head, &strip[..size], &mut destination[..size]);
-    write_answer(writer, answer.number, &destination[..size]).map_err(|_| Failure::NotWritten)
+    write_answer(out, answer.number, &destination[..size]).map_err(|_| Failure::NotWritten)
 }
 
 // The exit status stays 0, so the program says what went wrong.
 fn main(rt: HostRuntime) {
-    if let Err(failure) = run(&mut rt.stdin(), &mut rt.stdout()) {
+    if let Err(failure) = run(&mut rt.stdin(), &rt) {
         let _ = eprintln!(rt; "rounds: {failure}");
     }
 }

@@ -11,8 +11,8 @@ import sys
 
 from pages import DOCS, all_pages, anchors, flowing, links, prose, read, report, spans
 
-# history speaks in the names and paths of its time, and two pages name what each thing was called before
-HISTORY = {DOCS / "LANDINGS.md", DOCS / "PORT.md", DOCS / "DESIGN-PASS.md"}
+# history speaks in the names and paths of its time, and three pages name what each thing was called before
+HISTORY = {DOCS / "LANDINGS.md", DOCS / "PORT.md", DOCS / "DESIGN-PASS.md", DOCS / "LOOK-BACK.md"}
 # these say what the customer's papers are
 EXPLAIN = {DOCS / "RULES.md", DOCS / "PROMISES.md", DOCS / "DECISIONS.md"} | HISTORY
 PAPERS = re.compile(r"document 0\d|demand [123]\b|source 00\d", re.I)

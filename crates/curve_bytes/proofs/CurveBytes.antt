@@ -7,12 +7,11 @@ use native.Mathlib.Nat.{le_of_suc-le-suc}
 use native.Mathlib.Omega.{arith}
 use borrow.Author.Tests.{eqb-true, leb-true, eq-eqb, le-leb}
 use lib.Dec.{leb, eqb}
-use lib.ListN.{length}
-use Rattle.std.proofs.Common.{w16, is_le, nat_cmp}
+use lib.ListN.{length, drop}
+use Rattle.std.proofs.Common.{w16}
 use Rattle.std.specs.Int.{from_le_bytes}
-use Rattle.std.specs.List.{IsAllAdjacentAnswer}
 use Rattle.std.specs.Simd.{first_chunks}
-use Rattle.std.proofs.lemmas.List.Sorted.{non_decreasing_from_is_sorted}
+use Rattle.std.proofs.lemmas.List.{drop_all, drop_more}
 use Rattle.tables.specs.Table.{at}
 use Rattle.std.proofs.lemmas.Bool.{and_parts, false_from_ne_true}
 use Rattle.pixel.specs.Strip.{Bytes}
@@ -117,15 +116,17 @@ falls_complete before (entry ∷ entries) (above, rises) =
           (λ k h. rises 0 (suc k) (omega arith) (omega arith), λ s t le less. rises (suc s) (suc t) (omega arith) (omega arith)),
     ) refl
 
--- and what `is_sorted` answers
-pub order_tested : (curve : List ℕ) (sorted : Bool) → IsAllAdjacentAnswer (λ x y b. is_le (nat_cmp x y) ≡ b) curve sorted
-    → sorted ≡ none_falls 0 curve
-order_tested curve true answer =
-    let rises = non_decreasing_from_is_sorted curve true answer in
-    sym (falls_complete 0 curve (λ k h. omega arith, λ s t le less. rises s t 0 le less))
-order_tested curve false answer =
-    let (k, less, falls) = non_decreasing_from_is_sorted curve false answer in
-    sym (false_from_ne_true (none_falls 0 curve) (λ e. omega (arith, falls 0, (falls_sound 0 curve e).1 k (k + 1) (omega arith) less)))
+-- The test goes from entry to entry: what it has come to and the rest say together what all entries say.
+pub falls_more : (curve : List ℕ) (i before : ℕ) (rises : Bool) → i < length curve
+    → ((rises && leb before (at curve i)) && none_falls (at curve i) (drop (i + 1) curve)) ≡ (rises && none_falls before (drop i curve))
+unfolding none_falls
+falls_more curve i before true h = sym (ap (none_falls before) (drop_more curve i 0 h))
+falls_more curve i before false h = refl
+
+pub falls_end : (curve : List ℕ) (i before : ℕ) (rises : Bool) → length curve ≤ i → (rises && none_falls before (drop i curve)) ≡ rises
+unfolding none_falls
+falls_end curve i before true h = ap (none_falls before) (drop_all i curve h)
+falls_end curve i before false h = refl
 
 -- what the test of their range says
 exceeds_sound : (entries : List ℕ) → none_exceeds entries ≡ true → (k : ℕ) → at entries k ≤ 765

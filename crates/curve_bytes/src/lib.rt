@@ -5,7 +5,7 @@ ghost use Rattle.std.specs.Prelude.{◌≡◌, IfOk};
 ghost use Rattle.refusal.specs.Numbers.{number_in};
 ghost use Rattle.refusal.specs.Refusal.{first_of};
 ghost use Rattle.curve.specs.Curve.{EntriesInRange};
-ghost use Rattle.curve_bytes.specs.CurveBytes.{curve_bytes, curve_entries, keeps_curve_rule, bytes_checks};
+ghost use Rattle.curve_bytes.specs.CurveBytes.{curve_bytes, curve_entries, none_falls, keeps_curve_rule, bytes_checks};
 
 use refusal::Refusal;
 use std::array;
@@ -34,12 +34,26 @@ pub fn read_curve(bytes: &[u8; CURVE_LENGTH]) -> [u16; 766]
     array::from_fn(|k| u16::from_le_bytes(pairs[k]))
 }
 
+// Whether no entry is less than the one before. (Not `is_sorted`, which leaves at the first that is: with no way out before the end the
+// compiler takes many entries at a time.)
+fn none_falls(curve: &[u16; 766]) -> bool
+    ensures { result ≡ none_falls 0 curve.now }
+{
+    let mut before = 0;
+    let mut rises = true;
+    for entry in curve {
+        rises &= before <= *entry;
+        before = *entry;
+    }
+    rises
+}
+
 // Whether the entries keep the rule by which a curve is accepted. Where the last is 765 and none falls, none exceeds 765.
 #[tactic(auto, unfolding(crate::specs::CurveBytes::keeps_curve_rule))]
 pub fn keeps_curve_rule(curve: &[u16; 766]) -> bool
     ensures { result ≡ keeps_curve_rule curve.now }
 {
-    curve[0] == 0 && curve[765] == 765 && curve.is_sorted()
+    curve[0] == 0 && curve[765] == 765 && none_falls(curve)
 }
 
 // The entries of a curve that a caller hands in as bytes. Refused: 10, 11.

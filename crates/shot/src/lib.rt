@@ -138,7 +138,7 @@ impl Shot {
         ensures { coloured self (record { method = method; dial = dial; source = source.now; destination = destination.old }) ≡ record { answer = result; bytes = destination.new } }
     {
         let written = self.write(method, dial, source, destination);
-        // Not by `Answer::new`: a Result with the shot in it is copied, shot and all, which takes longer than the colouring of few pixels.
+        // Not by `Answer::new`: a Result with the shot in it is copied, shot and all, which under off takes longer than to colour few pixels.
         Answer {
             number: refusal::number_in(&written),
             shot: self,

@@ -34,8 +34,8 @@ pub fn read_curve(bytes: &[u8; CURVE_LENGTH]) -> [u16; 766]
     array::from_fn(|k| u16::from_le_bytes(pairs[k]))
 }
 
-// Whether no entry is less than the one before. (Not `is_sorted`, which leaves at the first that is: with no way out before the end the
-// compiler takes many entries at a time.)
+// Whether no entry is less than the one before. (Not `is_sorted`, which stops where one is: with no way out before the end the compiler
+// takes many entries at a time.)
 fn none_falls(curve: &[u16; 766]) -> bool
     ensures { result ≡ none_falls 0 curve.now }
 {
